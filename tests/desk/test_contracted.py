@@ -808,7 +808,7 @@ def test_an_interrupt_leaves_nothing_half_made(
     stops.chmod(0o755)
     calls = tmp_path / "calls"
     command = [sys.executable, "-m", "scribe", "bring", "small.utb", "out.utb"]
-    command += ["--for", "text.txt", "--words", "words"]
+    command += ["--for", "text.txt", "--words", "words", "--overwrite"]
     settings = {
         "CALLS": str(calls),
         "REAL": program,
