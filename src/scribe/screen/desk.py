@@ -588,12 +588,7 @@ class Desk:
             is_same = state.version == self._session.last_version
             is_about_lines = state.question is None or bool(state.question.lines)
             if is_same and state.typed is not None and is_about_lines:
-                # who types on meanwhile types into the same text, and gives no commands
-                if is_sent and state.question is None:
-                    found = _with_end(found, state.typed)
-                elif state.typed.text:
-                    found = found.saying_too(_TYPE_ON)
-                return refreshed(self._session, found)
+                return refreshed(self._session, _still_typed(found, is_sent))
             found = replace(without_typed(found), question=None)
             found = self._opened_again(replace(found, version=lost.version))
             found = found if is_same else self._looked_at_anew(found)
@@ -1011,6 +1006,14 @@ def _is_gone_on_from(asked: Command[Any] | Action | None) -> bool:
     """Whether another new paragraph is typed after what a key asked for."""
     is_of_new = isinstance(asked, TypeAll) and asked.purpose.is_new
     return is_of_new or isinstance(asked, requests.Type)
+
+
+def _still_typed(state: State, is_sent: bool) -> State:
+    """The state for who types on meanwhile into the same text, and gives no commands."""
+    assert state.typed is not None
+    if is_sent and state.question is None:
+        return _with_end(state, state.typed)
+    return state.saying_too(_TYPE_ON) if state.typed.text else state
 
 
 def _with_end(state: State, typed: Field) -> State:
