@@ -19,7 +19,7 @@ use Rattle.desk_parts.specs.declared.file_table.FileTable.TheVariants as tables
 use Rattle.desk_parts.specs.Puts.{Flags, Place, Print, PutRow, Resolved, RowPut, SetColumns, Span, Table, Version}
 use Rattle.desk_parts.specs.Rows.{Mark as MarkRow, NamedCorr, Para}
 use Rattle.desk_model.specs.Shows.{flag_number, style_number}
-use Rattle.desk_model.specs.Step.{next_id, next_mark}
+use Rattle.desk_model.specs.NextBook.{next_id, next_mark}
 use Rattle.desk_model.specs.Loans.{next_entry_number, row_number}
 
 -- the entry with this number in the history of the paragraph with this id

@@ -29,9 +29,9 @@ use Rattle.desk_model.specs.Print.{print_of, with_entry}
 use Rattle.desk_model.specs.Named.{HasCharacters, named_by, number_of}
 use Rattle.desk_model.specs.Refusals.{IsAccepted}
 use Rattle.desk_memory.specs.Room.{Suffices}
-use Rattle.desk_model.specs.Step.{Makes, new_paragraph, next_id, next_mark, next_with_entry, next_with_marks}
-use Rattle.desk_model.specs.Step.{next_with_paragraphs, next_with_table, with_change, with_resolved}
-use Rattle.desk_model.specs.NormalForm.{normal_form}
+use Rattle.desk_model.specs.NextBook.{Makes, new_paragraph, next_id, next_mark, next_with_entry, next_with_marks}
+use Rattle.desk_model.specs.NextBook.{next_with_paragraphs, next_with_table, with_change, with_resolved}
+use Rattle.desk_model.specs.BookTexts.{normal_form}
 use Rattle.desk_memory.specs.Braille.{AreCellsOf}
 
 -- each paragraph that uses the table has new cells by the meaning, and no other has any

@@ -19,8 +19,8 @@ use Rattle.desk_memory.specs.Held.{paragraph_held}
 use Rattle.desk_model.specs.Named.{HasCharacters}
 use Rattle.desk_model.specs.Print.{print_of}
 use Rattle.desk_model.specs.Refusals.{IsAccepted, IsRefused}
-use Rattle.desk_model.specs.Step.{Makes}
-use Rattle.desk_model.specs.Characters.{AreCharacters}
+use Rattle.desk_model.specs.NextBook.{Makes}
+use Rattle.desk_model.specs.BookTexts.{AreCharacters}
 
 -- the command is accepted, the effect is what it does, and what it puts into the book is of
 -- characters

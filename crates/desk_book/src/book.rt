@@ -1,15 +1,19 @@
-//! A book.
-ghost use Rattle.desk_model.specs.Book.{empty_book};
+//! A book, and its paragraphs as they are held.
+ghost use Rattle.desk_book.specs.Plans.{IsHeldFor};
+ghost use Rattle.desk_memory.specs.Display.{IsShown};
+ghost use Rattle.desk_model.specs.Book.{empty_book, paragraph_of};
 ghost use Rattle.desk_model.specs.Rebuilding.{IsFaultOf};
 ghost use Rattle.desk_model.specs.Shows.{Shows};
 ghost use Rattle.desk_model.specs.Sound.{IsSound};
 ghost use Rattle.desk_parts.specs.Parts.{rows_in};
-ghost use Rattle.std.specs.Prelude.{◌≡◌, MatchResult, IfErr, IfOk};
+ghost use Rattle.louis_table.specs.Meaning.{Meaning};
+ghost use Rattle.std.specs.Prelude.{◌≡◌, MatchResult, IfErr, IfOk, None};
 
-use desk_memory::{Marks, Paragraphs, Tables};
-use desk_model::PartsFault;
+use desk_memory::{Marks, Paragraph, Paragraphs, Tables};
+use desk_model::{PartsFault, Refusal};
 use desk_parts::Parts;
 use desk_rebuild::{HeldBook, rebuild};
+use louis_translate::RuleIndex;
 use std::alloc::{AllocError, Global};
 use std::marker::Model;
 
@@ -80,5 +84,28 @@ impl Book {
         ensures sound { IsSound self.now }
     {
         self.version
+    }
+
+    /// A paragraph as it is held in memory.
+    pub(crate) fn held_paragraph(&self, id: u64) -> Result<&Paragraph, Refusal>
+        ensures found { IfOk result (λ held. IsHeldFor self.now id held.now) }
+        ensures shown { IfOk result (λ held. (meaning : Meaning) × IsShown self.now id held.now meaning) }
+        ensures missing { IfErr result (λ why. (why ≡ Refusal.NoParagraph) × (paragraph_of self.now id ≡ None)) }
+    {
+        self.paragraphs.get(id).ok_or(Refusal::NoParagraph)
+    }
+
+    /// A paragraph as it is held in memory, and the rules of its table.
+    pub(crate) fn paragraph_and_rules(&self, id: u64) -> Result<(&Paragraph, &RuleIndex), Refusal>
+        ensures found { IfOk result (λ shown. IsShown self.now id shown.0.now shown.1.now) }
+        ensures missing { IfErr result (λ why. (why ≡ Refusal.NoParagraph) × (paragraph_of self.now id ≡ None)) }
+    {
+        let Some(paragraph) = self.paragraphs.get(id) else {
+            return Err(Refusal::NoParagraph);
+        };
+        let Some(table) = self.tables.get(paragraph.table.as_str()) else {
+            unreachable!()
+        };
+        Ok((paragraph, &table.rules))
     }
 }

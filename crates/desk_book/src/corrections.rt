@@ -1,7 +1,7 @@
 //! Corrections of prints, and what takes them back.
 ghost use Rattle.desk_book.specs.Corrections.{HaltsEntry, HaltsPrint, IsEntered, IsUnfit, TakesEntry};
 ghost use Rattle.desk_memory.specs.Histories.{IsCorrection};
-ghost use Rattle.desk_model.specs.Name.{IsProofreaderName};
+ghost use Rattle.desk_model.specs.ValidNames.{IsProofreaderName};
 ghost use Rattle.desk_book.specs.Plans.{IsPlanned, IsTurnedDown};
 ghost use Rattle.desk_memory.specs.Display.{IsShown};
 ghost use Rattle.std.specs.Prelude.{◌≡◌, ◌+◌, ◌<◌, ◌≤◌, false, IfErr, IfOk, OnOk, length};

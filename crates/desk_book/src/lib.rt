@@ -31,7 +31,6 @@ mod marking;
 mod plan;
 mod puts;
 mod queries;
-mod settle;
 
 pub use book::Book;
 pub use change::Change;

@@ -10,7 +10,7 @@ ghost use Rattle.desk_parts.specs.declared.file_table.FileTable.{FileTable};
 ghost use Rattle.desk_parts.specs.Puts.{LendsFirst, PutRow, put_of};
 ghost use Rattle.desk_model.specs.Shows.{flag_number, style_number};
 ghost use Rattle.desk_model.specs.Sound.{IsSound};
-ghost use Rattle.desk_model.specs.Step.{next_id};
+ghost use Rattle.desk_model.specs.NextBook.{next_id};
 ghost use Rattle.std.specs.Prelude.{◌≡◌, ◌+◌, ◌-◌, ◌<◌, ◌≤◌, [], ◌∷◌, ◌++◌, IfNone, IfSome, length, map, slice_index};
 
 use super::book::Book;

@@ -2,43 +2,17 @@
 ghost use Rattle.desk_model.specs.Book.{paragraph_of};
 ghost use Rattle.desk_model.specs.ParagraphMarks.{marks_on};
 ghost use Rattle.desk_model.specs.Print.{print_of};
-ghost use Rattle.desk_memory.specs.Display.{IsShown};
-ghost use Rattle.desk_book.specs.Plans.{IsHeldFor};
 ghost use Rattle.desk_model.specs.Translation.{IsBraille, IsOutputPlace, IsPrintPlace, LacksCell, LacksPlace};
-ghost use Rattle.louis_table.specs.Meaning.{Meaning};
 ghost use Rattle.std.specs.List.{enumerate_from};
 ghost use Rattle.std.specs.Prelude.{◌≡◌, ◌⊎◌, IfErr, IfOk, None, Some};
 
 use super::book::Book;
 use cell_core::Cell;
-use desk_memory::{History, List, Paragraph, ParagraphMarks};
+use desk_memory::{History, List, ParagraphMarks};
 use desk_model::Refusal;
-use louis_translate::{RuleIndex, output_place, print_place};
+use louis_translate::{output_place, print_place};
 
 impl Book {
-    /// A paragraph as it is held in memory.
-    pub(crate) fn held_paragraph(&self, id: u64) -> Result<&Paragraph, Refusal>
-        ensures found { IfOk result (λ held. IsHeldFor self.now id held.now) }
-        ensures shown { IfOk result (λ held. (meaning : Meaning) × IsShown self.now id held.now meaning) }
-        ensures missing { IfErr result (λ why. (why ≡ Refusal.NoParagraph) × (paragraph_of self.now id ≡ None)) }
-    {
-        self.paragraphs.get(id).ok_or(Refusal::NoParagraph)
-    }
-
-    /// A paragraph as it is held in memory, and the rules of its table.
-    pub(crate) fn paragraph_and_rules(&self, id: u64) -> Result<(&Paragraph, &RuleIndex), Refusal>
-        ensures found { IfOk result (λ shown. IsShown self.now id shown.0.now shown.1.now) }
-        ensures missing { IfErr result (λ why. (why ≡ Refusal.NoParagraph) × (paragraph_of self.now id ≡ None)) }
-    {
-        let Some(paragraph) = self.paragraphs.get(id) else {
-            return Err(Refusal::NoParagraph);
-        };
-        let Some(table) = self.tables.get(paragraph.table.as_str()) else {
-            unreachable!()
-        };
-        Ok((paragraph, &table.rules))
-    }
-
     /// The print of a paragraph.
     ///
     /// # Errors

@@ -8,7 +8,7 @@ use Rattle.std.proofs.lemmas.List.Elements.{All-nil, All-cons, All-append, All-m
 use Rattle.louis_table.proofs.CellLimits.{all_joined}
 use Rattle.desk_model.specs.Book.{Book}
 use Rattle.desk_brf.specs.Embossed.{IsCellByte, IsEmbossedByte, IsTextLine}
-use Rattle.desk_brf.specs.Layout.{Layout, IsLayout}
+use Rattle.desk_brf.specs.PageLayout.{Layout, IsLayout}
 use Rattle.desk_brf.specs.Pages.{digit_letter, number_line, number_text, page_text, with_ending}
 use Rattle.desk_brf.specs.Volume.{IsVolume}
 use Rattle.desk_brf.proofs.EachLine.{all-front, all-after, each_line}

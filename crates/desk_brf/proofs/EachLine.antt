@@ -13,7 +13,7 @@ use Rattle.desk_model.specs.declared.style.Style.{Style}
 use Rattle.desk_model.specs.declared.style.Style.TheVariants.{Body, Heading}
 use Rattle.desk_brf.specs.Embossed.{IsCellByte, IsTextLine}
 use Rattle.desk_brf.specs.Laying.{with_blanks}
-use Rattle.desk_brf.specs.Layout.{Layout, IsLayout, text_lines}
+use Rattle.desk_brf.specs.PageLayout.{Layout, IsLayout, text_lines}
 use Rattle.desk_brf.specs.Placing.{AreTexts, IsAscii, IsLine, IsPlacing, IsText, cells_of_pieces, first_indent, other_indent}
 use Rattle.desk_brf.specs.Volume.{AreLines, IsVolume, gap_before}
 use Rattle.desk_brf.specs.Volumes.{volume_of}

@@ -8,7 +8,7 @@ use Rattle.std.proofs.lemmas.Bool.{cases_order}
 use Rattle.std.proofs.lemmas.List.{append_cancel_left, length-replicate}
 use Rattle.std.proofs.lemmas.List.Elements.{All-head, All-tail}
 use Rattle.desk_model.specs.Book.{Book, Paragraph}
-use Rattle.desk_brf.specs.Layout.{Layout, text_lines}
+use Rattle.desk_brf.specs.PageLayout.{Layout, text_lines}
 use Rattle.desk_brf.specs.Pages.{ArePages, page_text}
 use Rattle.desk_brf.specs.Placing.{ArePlaced, first_indent, other_indent}
 use Rattle.desk_brf.specs.Volume.{AreLines, IsVolume, gap_before}

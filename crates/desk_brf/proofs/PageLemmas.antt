@@ -10,11 +10,11 @@ use Rattle.std.proofs.lemmas.Nat.{mod-mul-add, div-mul-add, div-add-mod'}
 use Rattle.desk_model.specs.Book.{Book, Paragraph}
 use Rattle.desk_ends.specs.Sending.{Transmits}
 use Rattle.desk_brf.specs.Laying.{FillsPage, PutsPages, PutsParagraphs, bytes_of_lines, page_end}
-use Rattle.desk_brf.specs.Layout.{Layout, text_lines}
+use Rattle.desk_brf.specs.PageLayout.{Layout, text_lines}
 use Rattle.desk_brf.specs.Pages.{ArePages, number_line, page_text, with_ending}
 use Rattle.desk_brf.specs.Volume.{AreLines}
 use Rattle.desk_brf.proofs.ParagraphLemmas.{bytes_of_lines-append}
-use Rattle.desk_brf.proofs.SendLemmas.{Transmits-then, Transmits-stop, Transmits-same, Transmits-told, missing-few, missing-fill, page_end-full}
+use Rattle.desk_brf.proofs.SendLemmas.{Transmits-then, Transmits-stop, Transmits-same, Transmits-reported, missing-few, missing-fill, page_end-full}
 
 abbrev Line : Type 0
 Line = List ℕ
@@ -164,16 +164,16 @@ module _ (F : Type 0) (book : Book) (layout : Layout) (paragraphs : List Paragra
       (not_ok answer (λ pages. pages ≡ (length p.lines + blank) / room) f')
 
   -- the last page is filled after them, or fails
-  pub Pages-goes : (a b c : Option (List ℕ)) (lines after : ℕ) (ok told : Bool) → PutsParagraphs F a b book layout paragraphs lines ok → ok ≡ true
-      → FillsPage F b c layout lines after told → is_ok answer ≡ told → IfOk answer (λ pages. pages ≡ after / room) → PutsPages F a c book layout paragraphs answer
-  Pages-goes a b c lines after ok told p t f same number =
+  pub Pages-goes : (a b c : Option (List ℕ)) (lines after : ℕ) (ok reported : Bool) → PutsParagraphs F a b book layout paragraphs lines ok → ok ≡ true
+      → FillsPage F b c layout lines after reported → is_ok answer ≡ reported → IfOk answer (λ pages. pages ≡ after / room) → PutsPages F a c book layout paragraphs answer
+  Pages-goes a b c lines after ok reported p t f same number =
       let size : lines ≡ length p.lines = p.count t in
       let full : (length p.lines + f.blank) % room ≡ 0 = ap (λ k. (length p.lines + f.blank) % k) is ∙ (ap (λ k. (k + f.blank) % text_lines layout) (sym size) ∙ f.full) in
-      let sent : Transmits F b c (bytes_of_lines layout (length p.lines) (replicate f.blank [])) [] told =
-      Transmits-same F b c _ _ [] told (ap (λ k. bytes_of_lines layout k (replicate f.blank [])) size) f.sent in
+      let sent : Transmits F b c (bytes_of_lines layout (length p.lines) (replicate f.blank [])) [] reported =
+      Transmits-same F b c _ _ [] reported (ap (λ k. bytes_of_lines layout k (replicate f.blank [])) size) f.sent in
       filled a c p.lines f.blank p.placed (subst (λ k. f.blank < k) (sym is) f.fewest) full
-      (Transmits-told F a c _ [] told (is_ok answer) (sym same) (Transmits-then F a b c (bytes_of_lines layout 0 p.lines) (bytes_of_lines layout (length p.lines) (replicate f.blank [])) ok told p.sent t sent))
-      (elim (cases_Bool told) [
+      (Transmits-reported F a c _ [] reported (is_ok answer) (sym same) (Transmits-then F a b c (bytes_of_lines layout 0 p.lines) (bytes_of_lines layout (length p.lines) (replicate f.blank [])) ok reported p.sent t sent))
+      (elim (cases_Bool reported) [
         | inl whole ↦
             let all : after ≡ length p.lines + f.blank = f.count whole ∙ ap (λ k. k + f.blank) size in
             subst (λ k. IfOk answer (λ pages. pages ≡ k / room)) all number

@@ -8,7 +8,7 @@ use Rattle.desk_model.specs.declared.style.Style.{Style}
 use Rattle.desk_model.specs.declared.style.Style.TheVariants.{Body, Heading}
 use Rattle.desk_ends.specs.Sending.{Transmits}
 use Rattle.desk_ends.proofs.Sending.{Transmits-whole}
-use Rattle.desk_brf.specs.Layout.{Layout}
+use Rattle.desk_brf.specs.PageLayout.{Layout}
 use Rattle.desk_brf.specs.Laying.{PutsLines, PutsParagraph, page_end, bytes_of_lines, AreLaid}
 use Rattle.desk_brf.specs.Pages.{with_ending}
 use Rattle.desk_brf.specs.Placing.{first_indent, other_indent}
@@ -65,28 +65,28 @@ module _ (F : Type 0) (a b : Option (List ℕ)) (layout : Layout) (style : Style
       ∙ ap (λ (g : List (List ℕ)). bytes_of_lines layout n (g ++ own)) (sym (gap-is own placed))
 
   -- the gap fails
-  pub paragraph-stops : first_indent style < layout.width → other_indent style < layout.width → AreWords IsSixDot ws → (ok told : Bool) (after : ℕ) → ok ≡ false → told ≡ false
-      → Transmits F a b (bytes_of_lines layout n (gap_before layout n style ([] ∷ []))) [] ok → PutsParagraph F a b layout style ws n after told
-  paragraph-stops narrow narrow' all ok told after f f' s =
+  pub paragraph-stops : first_indent style < layout.width → other_indent style < layout.width → AreWords IsSixDot ws → (ok reported : Bool) (after : ℕ) → ok ≡ false → reported ≡ false
+      → Transmits F a b (bytes_of_lines layout n (gap_before layout n style ([] ∷ []))) [] ok → PutsParagraph F a b layout style ws n after reported
+  paragraph-stops narrow narrow' all ok reported after f f' s =
       let own = placed-some layout.width (first_indent style) (other_indent style) ws narrow narrow' all in
       record {
         lines = own.0;
         placed = own.1;
-        sent = Transmits-same F a b _ _ [] told (text-is own.0 own.1) (Transmits-stop F a b b (bytes_of_lines layout n (gap_before layout n style ([] ∷ []))) (bytes_of_lines layout (n + length (gap_before layout n style ([] ∷ []))) own.0) ok told s f f');
-        count = λ whole. absurd (both_ways told f' whole);
+        sent = Transmits-same F a b _ _ [] reported (text-is own.0 own.1) (Transmits-stop F a b b (bytes_of_lines layout n (gap_before layout n style ([] ∷ []))) (bytes_of_lines layout (n + length (gap_before layout n style ([] ∷ []))) own.0) ok reported s f f');
+        count = λ whole. absurd (both_ways reported f' whole);
       }
 
   -- its lines after the gap
-  pub paragraph-goes : (c : Option (List ℕ)) (ok told : Bool) (mid after : ℕ) → ok ≡ true → mid ≡ n + length (gap_before layout n style ([] ∷ []))
+  pub paragraph-goes : (c : Option (List ℕ)) (ok reported : Bool) (mid after : ℕ) → ok ≡ true → mid ≡ n + length (gap_before layout n style ([] ∷ []))
       → Transmits F a b (bytes_of_lines layout n (gap_before layout n style ([] ∷ []))) [] ok
-      → PutsLines F b c layout (first_indent style) (other_indent style) ws mid after told → PutsParagraph F a c layout style ws n after told
-  paragraph-goes c ok told mid after t mid_is s p =
+      → PutsLines F b c layout (first_indent style) (other_indent style) ws mid after reported → PutsParagraph F a c layout style ws n after reported
+  paragraph-goes c ok reported mid after t mid_is s p =
       record {
         lines = p.lines;
         placed = p.placed;
-        sent = Transmits-same F a c _ _ [] told (text-is p.lines p.placed)
-            (Transmits-then F a b c (bytes_of_lines layout n (gap_before layout n style ([] ∷ []))) (bytes_of_lines layout (n + length (gap_before layout n style ([] ∷ []))) p.lines) ok told s t
-            (Transmits-same F b c _ _ [] told (ap (λ k. bytes_of_lines layout k p.lines) mid_is) p.sent));
+        sent = Transmits-same F a c _ _ [] reported (text-is p.lines p.placed)
+            (Transmits-then F a b c (bytes_of_lines layout n (gap_before layout n style ([] ∷ []))) (bytes_of_lines layout (n + length (gap_before layout n style ([] ∷ []))) p.lines) ok reported s t
+            (Transmits-same F b c _ _ [] reported (ap (λ k. bytes_of_lines layout k p.lines) mid_is) p.sent));
         count = λ whole.
             let count = p.count whole in
             let e = ap (λ (g : List (List ℕ)). length (g ++ p.lines)) (gap-is p.lines p.placed) in

@@ -4,7 +4,7 @@ use Rattle.std.specs.Prelude.{replicate}
 use Rattle.std.proofs.lemmas.Bool.{both_ways}
 use Rattle.desk_ends.specs.Sending.{Transmits}
 use Rattle.desk_ends.proofs.Sending.{Sending, Sending-none, Sending-same, Sending-more, Sending-fails, Sending-done}
-use Rattle.desk_brf.specs.Layout.{Layout}
+use Rattle.desk_brf.specs.PageLayout.{Layout}
 use Rattle.desk_brf.specs.Laying.{LaysLine, PutsLines, page_end, bytes_of_lines, AreLaid}
 use Rattle.desk_brf.specs.Pages.{with_ending}
 use Rattle.desk_brf.specs.Placing.{IsText, cells_of_pieces, first_indent, other_indent}
@@ -59,14 +59,14 @@ module _ (F : Type 0) (a b c : Option (List ℕ)) (layout : Layout) (first other
         count = omega (arith, size, count);
       }
 
-  pub Putting-fails : (after : ℕ) (told : Bool) → ok ≡ false → told ≡ false → PutsLines F a c layout first other all_words start after told
-  Putting-fails after told f f' =
+  pub Putting-fails : (after : ℕ) (reported : Bool) → ok ≡ false → reported ≡ false → PutsLines F a c layout first other all_words start after reported
+  Putting-fails after reported f f' =
       record {
         lines = was.all;
         placed = was.placed;
         sent = Sending-fails F a b c [] [] (bytes_of_lines layout lines was.left) (bytes_of_lines layout start was.all) ok was.sending (with_ending line ++ page_end layout (lines + 1))
-            (bytes_of_lines layout (lines + 1) next.0) parts s [] told f f';
-        count = λ whole. absurd (both_ways told f' whole);
+            (bytes_of_lines layout (lines + 1) next.0) parts s [] reported f f';
+        count = λ whole. absurd (both_ways reported f' whole);
       }
 
 none-left : (width first other : ℕ) (lines : List (List ℕ)) → AreLaid width first other [] lines → lines ≡ []

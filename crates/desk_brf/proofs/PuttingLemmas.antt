@@ -15,7 +15,7 @@ use Rattle.desk_model.specs.Print.{print_of}
 use Rattle.desk_model.specs.Translation.{IsBraille}
 use Rattle.desk_ends.specs.Sending.{Transmits}
 use Rattle.desk_ends.proofs.Sending.{Sending, Sending-none, Sending-same, Sending-more, Sending-fails, Sending-done}
-use Rattle.desk_brf.specs.Layout.{Layout}
+use Rattle.desk_brf.specs.PageLayout.{Layout}
 use Rattle.desk_brf.specs.Laying.{PutsParagraph, PutsParagraphs, bytes_of_lines}
 use Rattle.desk_brf.specs.Placing.{ArePlaced, AreTexts, first_indent, other_indent}
 use Rattle.desk_brf.specs.Volume.{AreLines, HasSixDotCells, IsSixDot, gap_before}
@@ -144,14 +144,14 @@ module _ (F : Type 0) (a b c : Option (List ℕ)) (book : Book) (layout : Layout
         count = omega (arith, size, before);
       })
 
-  pub Paragraphs-fails : (end : ℕ) (told : Bool) → ok ≡ false → told ≡ false → PutsParagraphs F a c book layout all end told
-  Paragraphs-fails end told f f' =
+  pub Paragraphs-fails : (end : ℕ) (reported : Bool) → ok ≡ false → reported ≡ false → PutsParagraphs F a c book layout all end reported
+  Paragraphs-fails end reported f f' =
       record {
         lines = was.all;
         placed = was.placed;
         sent = Sending-fails F a b c [] [] (bytes_of_lines layout lines was.left) (bytes_of_lines layout 0 was.all) ok was.sending (bytes_of_lines layout lines own)
-            (bytes_of_lines layout (lines + length own) next.0) parts sent [] told f f';
-        count = λ whole. absurd (both_ways told f' whole);
+            (bytes_of_lines layout (lines + length own) next.0) parts sent [] reported f f';
+        count = λ whole. absurd (both_ways reported f' whole);
       }
 
 pub Paragraphs-done : (F : Type 0) (a b : Option (List ℕ)) (book : Book) (layout : Layout) (all left_over : List Paragraph) (lines : ℕ)

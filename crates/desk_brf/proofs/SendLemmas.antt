@@ -9,7 +9,7 @@ use Rattle.std.proofs.lemmas.Fmt.{length-decimal-le}
 use Rattle.std.proofs.lemmas.Nat.{mod-mul-add, div-add-mod', mod_below}
 use Rattle.desk_ends.specs.Sending.{Transmits}
 use Rattle.desk_brf.specs.Laying.{FillsPage, bytes_of_lines, page_end}
-use Rattle.desk_brf.specs.Layout.{Layout, text_lines}
+use Rattle.desk_brf.specs.PageLayout.{Layout, text_lines}
 use Rattle.desk_brf.specs.Pages.{digit_letter, with_ending, number_text, number_line}
 
 -- one text after another
@@ -86,8 +86,8 @@ number_line-short width number narrow fits =
     omega (arith, digits, text, all, length-replicate {A = ℕ} (width - length (number_text number)) 32, narrow)
 
 -- the same, said otherwise
-pub Transmits-told : (F : Type 0) (a b : Option (List ℕ)) (x held : List ℕ) (ok told : Bool) → ok ≡ told → Transmits F a b x held ok → Transmits F a b x held told
-Transmits-told F a b x held ok told e s = subst (λ (t : Bool). Transmits F a b x held t) e s
+pub Transmits-reported : (F : Type 0) (a b : Option (List ℕ)) (x held : List ℕ) (ok reported : Bool) → ok ≡ reported → Transmits F a b x held ok → Transmits F a b x held reported
+Transmits-reported F a b x held ok reported e s = subst (λ (t : Bool). Transmits F a b x held t) e s
 
 -- the first of empty lines
 pub bytes_of_lines-blank : (layout : Layout) (n k m : ℕ) → k ≡ m + 1

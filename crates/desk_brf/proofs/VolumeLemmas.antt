@@ -93,9 +93,9 @@ in_volume-is book number = in_volume-chosen (remaining book) number [] 0 0 book.
 
 -- ---- one paragraph more
 
-module _ (number c next : ℕ) (p : Paragraph) (ps : List Paragraph) (struck begins told : Bool) (is_struck : struck ≡ p.struck) (is_first : begins ≡ p.begins_volume)
-    (count : next ≡ cond struck c (count_after c begins)) (is : told ≡ (not struck && eqb next number)) where
-  in_volume-next : in_volume number c (p ∷ ps) ≡ cond told (p ∷ in_volume number next ps) (in_volume number next ps)
+module _ (number c next : ℕ) (p : Paragraph) (ps : List Paragraph) (struck begins reported : Bool) (is_struck : struck ≡ p.struck) (is_first : begins ≡ p.begins_volume)
+    (count : next ≡ cond struck c (count_after c begins)) (is : reported ≡ (not struck && eqb next number)) where
+  in_volume-next : in_volume number c (p ∷ ps) ≡ cond reported (p ∷ in_volume number next ps) (in_volume number next ps)
   in_volume-next =
       let after = count_after c p.begins_volume in
       let here = cond (eqb after number) (p ∷ in_volume number after ps) (in_volume number after ps) in
@@ -103,22 +103,22 @@ module _ (number c next : ℕ) (p : Paragraph) (ps : List Paragraph) (struck beg
         | inl s ↦
             let h : struck ≡ true = is_struck ∙ s in
             let n : next ≡ c = count ∙ ap (λ b. cond b c (count_after c begins)) h in
-            let t : told ≡ false = is ∙ ap (λ b. not b && eqb next number) h in
+            let t : reported ≡ false = is ∙ ap (λ b. not b && eqb next number) h in
             ap (λ b. cond b (in_volume number c ps) here) s
             ∙ (ap (λ k. in_volume number k ps) (sym n) ∙ ap (λ b. cond b (p ∷ in_volume number next ps) (in_volume number next ps)) (sym t))
         | inr s ↦
             let h : struck ≡ false = is_struck ∙ s in
             let n : next ≡ after = count ∙ (ap (λ b. cond b c (count_after c begins)) h ∙ ap (count_after c) is_first) in
-            let t : told ≡ eqb next number = is ∙ ap (λ b. not b && eqb next number) h in
+            let t : reported ≡ eqb next number = is ∙ ap (λ b. not b && eqb next number) h in
             ap (λ b. cond b (in_volume number c ps) here) s
             ∙ (ap (λ k. cond (eqb k number) (p ∷ in_volume number k ps) (in_volume number k ps)) (sym n)
             ∙ ap (λ b. cond b (p ∷ in_volume number next ps) (in_volume number next ps)) (sym t))
       ]
 
-  pub in_volume-in : told ≡ true → in_volume number c (p ∷ ps) ≡ p ∷ in_volume number next ps
+  pub in_volume-in : reported ≡ true → in_volume number c (p ∷ ps) ≡ p ∷ in_volume number next ps
   in_volume-in t = in_volume-next ∙ ap (λ b. cond b (p ∷ in_volume number next ps) (in_volume number next ps)) t
 
-  pub in_volume-out : told ≡ false → in_volume number c (p ∷ ps) ≡ in_volume number next ps
+  pub in_volume-out : reported ≡ false → in_volume number c (p ∷ ps) ≡ in_volume number next ps
   in_volume-out t = in_volume-next ∙ ap (λ b. cond b (p ∷ in_volume number next ps) (in_volume number next ps)) t
 
   -- no more volumes have begun than paragraphs have gone by

@@ -8,7 +8,7 @@ use Rattle.std.proofs.lemmas.List.Sums.{sum_by-append, sum_by-cons}
 use Rattle.louis_table.proofs.CellLimits.{all_joined}
 use Rattle.desk_model.specs.Book.{Book}
 use Rattle.desk_brf.specs.Embossed.{ArePageTexts, IsCellByte, IsPageText}
-use Rattle.desk_brf.specs.Layout.{Layout, IsLayout, text_lines}
+use Rattle.desk_brf.specs.PageLayout.{Layout, IsLayout, text_lines}
 use Rattle.desk_brf.specs.Pages.{number_line, page_text, with_ending}
 use Rattle.desk_brf.specs.Volume.{IsVolume}
 use Rattle.desk_brf.proofs.EachByte.{AreCellBytes, number-bytes, pages_lines-bytes}

@@ -11,7 +11,7 @@ use Rattle.desk_model.specs.Book.{Book, Paragraph}
 use Rattle.desk_model.specs.declared.style.Style.{Style}
 use Rattle.desk_model.specs.declared.style.Style.TheVariants.{Body, Heading}
 use Rattle.desk_brf.specs.Embossed.{AreBrailles, dots_in}
-use Rattle.desk_brf.specs.Layout.{Layout, text_lines}
+use Rattle.desk_brf.specs.PageLayout.{Layout, text_lines}
 use Rattle.desk_brf.specs.Placing.{AreTexts, IsAscii, IsText, cells_of_pieces, first_indent, other_indent}
 use Rattle.desk_brf.specs.Volume.{AreLines, IsVolume, gap_before}
 use Rattle.desk_brf.specs.Volumes.{volume_of}

@@ -5,7 +5,7 @@ use Rattle.desk_model.specs.Book.{Book}
 use Rattle.desk_ends.specs.declared.ends.Sink.{Ghosts}
 use Rattle.desk_brf.specs.declared.volume.ExportFault.{ExportFault}
 use Rattle.desk_brf.specs.declared.volume.ExportFault.TheVariants.{NoVolume, NotSixDots, Write}
-use Rattle.desk_brf.specs.Layout.{Layout}
+use Rattle.desk_brf.specs.PageLayout.{Layout}
 use Rattle.desk_brf.specs.Volumes.{volume_of}
 use Rattle.desk_brf.specs.Volume.{HasSixDotCells, IsFirstEightDot, IsVolume}
 

@@ -5,7 +5,7 @@ use Rattle.std.specs.List.{flat_map}
 use Rattle.desk_model.specs.Book.{Book, Paragraph}
 use Rattle.desk_model.specs.declared.style.Style.{Style}
 use Rattle.desk_ends.specs.Sending.{Transmits}
-use Rattle.desk_brf.specs.Layout.{Layout, text_lines}
+use Rattle.desk_brf.specs.PageLayout.{Layout, text_lines}
 use Rattle.desk_brf.specs.Pages.{ArePages, number_line, with_ending}
 use Rattle.desk_brf.specs.Placing.{IsAscii, IsText, IsLine, cells_of_pieces, first_indent, other_indent}
 use Rattle.desk_brf.specs.Volume.{AreLines, gap_before}

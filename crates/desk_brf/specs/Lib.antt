@@ -1,4 +1,4 @@
-pub mod Layout
+pub mod PageLayout
 pub mod Volumes
 pub mod Words
 pub mod Placing

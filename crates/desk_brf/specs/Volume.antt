@@ -6,7 +6,7 @@ use Rattle.desk_model.specs.Book.{Book, Paragraph}
 use Rattle.desk_model.specs.Translation.{IsBraille}
 use Rattle.desk_model.specs.declared.style.Style.{Style}
 use Rattle.desk_model.specs.declared.style.Style.TheVariants.{Body, Heading}
-use Rattle.desk_brf.specs.Layout.{Layout, text_lines}
+use Rattle.desk_brf.specs.PageLayout.{Layout, text_lines}
 use Rattle.desk_brf.specs.Volumes.{volume_of}
 use Rattle.desk_brf.specs.Words.{words}
 use Rattle.desk_brf.specs.Placing.{ArePlaced, first_indent, other_indent}

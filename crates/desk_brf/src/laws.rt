@@ -1,7 +1,7 @@
 //! Laws of pages.
 ghost use Rattle.desk_model.specs.Book.{Book};
 ghost use Rattle.desk_brf.specs.Embossed.{AreBrailles, ArePageTexts, IsEmbossedByte, IsTextLine, dots_in};
-ghost use Rattle.desk_brf.specs.Layout.{IsLayout, Layout, least_lines, least_width, most_lines, most_width};
+ghost use Rattle.desk_brf.specs.PageLayout.{IsLayout, Layout, least_lines, least_width, most_lines, most_width};
 ghost use Rattle.desk_brf.specs.declared.layout.TheConstants.{LEAST_LINES, LEAST_WIDTH, MOST_LINES, MOST_WIDTH};
 ghost use Rattle.desk_brf.specs.Placing.{IsPlacing};
 ghost use Rattle.desk_brf.specs.Volume.{IsVolume};

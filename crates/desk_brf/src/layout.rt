@@ -1,5 +1,6 @@
 //! How large pages are.
-ghost use Rattle.desk_brf.specs.Layout.{IsLayout, Layout, least_lines, least_width, most_lines, most_width, text_lines};
+ghost use Rattle.desk_brf.specs.PageLayout.{IsLayout, Layout, least_lines, least_width};
+ghost use Rattle.desk_brf.specs.PageLayout.{most_lines, most_width, text_lines};
 ghost use Rattle.std.specs.Prelude.{◌≡◌, ◌+◌, ◌<◌, ◌≤◌, ◌↔◌, IfOk, IsOk};
 
 use std::marker::Model;
@@ -29,7 +30,7 @@ pub struct Layout {
 }
 
 impl Model for Layout {
-    ghost use Rattle.desk_brf.specs.Layout.{IsLayout, Layout};
+    ghost use Rattle.desk_brf.specs.PageLayout.{IsLayout, Layout};
 
     ghost Value = { Layout };
 

@@ -1,5 +1,5 @@
 //! Lines as they are sent, and the ends of their pages.
-ghost use Rattle.desk_brf.specs.Layout.{most_lines, most_width, text_lines};
+ghost use Rattle.desk_brf.specs.PageLayout.{most_lines, most_width, text_lines};
 ghost use Rattle.desk_brf.specs.Laying.{FillsPage, page_end};
 ghost use Rattle.desk_brf.specs.Pages.{digit_letter, number_line, with_ending};
 ghost use Rattle.desk_ends.specs.Sending.{Transmits};

@@ -1,6 +1,6 @@
 //! The words of a paragraph on lines.
 ghost use Rattle.desk_brf.specs.Laying.{FillsLine, LaysLine, PutsLines, PutsParagraph, bytes_of_lines};
-ghost use Rattle.desk_brf.specs.Layout.{most_width};
+ghost use Rattle.desk_brf.specs.PageLayout.{most_width};
 ghost use Rattle.desk_brf.specs.Placing.{first_indent as first_indent_lem, other_indent as other_indent_lem};
 ghost use Rattle.desk_brf.specs.Volume.{IsSixDot, gap_before};
 ghost use Rattle.desk_brf.specs.Words.{IsAtWord, words};

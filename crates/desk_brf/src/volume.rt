@@ -2,7 +2,7 @@
 ghost use Rattle.cell_core.specs.Cell.{HasDot};
 ghost use Rattle.desk_brf.specs.Exported.{IsExported, IsJudged};
 ghost use Rattle.desk_brf.specs.Laying.{PutsPages, PutsParagraphs};
-ghost use Rattle.desk_brf.specs.Layout.{most_lines};
+ghost use Rattle.desk_brf.specs.PageLayout.{most_lines};
 ghost use Rattle.desk_brf.specs.Volume.{HasSixDotCells, IsSixDot};
 ghost use Rattle.desk_brf.specs.Volumes.{volume_of};
 ghost use Rattle.std.specs.Prelude.{◌≡◌, ◌⊎◌, ◌+◌, ◌<◌, ◌^◌, All, IfNone, IfSome, IsTrue};

@@ -6,9 +6,9 @@ use Rattle.desk_line.specs.declared.directive.Directive.{Directive}
 use Rattle.desk_line.specs.declared.request.Query.{Query}
 use Rattle.desk_line.specs.Commands.{FitsForm, SaysDirective, form, form_fields, grammar_of}
 use Rattle.desk_line.specs.Fields.{fields_of, line_of_fields}
-use Rattle.desk_line.specs.Grammar.{Fit, Grammar, Nothing}
-use Rattle.desk_line.specs.Head.{SaysQuery, query_grammar}
-use Rattle.desk_line.specs.Reading.{directive_by, directive_in, query_in, read}
+use Rattle.desk_line.specs.Operands.{Fit, Grammar, Nothing}
+use Rattle.desk_line.specs.HeadLine.{SaysQuery, query_grammar}
+use Rattle.desk_line.specs.ReadingSteps.{directive_by, directive_in, query_in, read}
 use Rattle.desk_line.specs.RequestText.{query_fields, query_form}
 use Rattle.desk_line.proofs.GrammarLaws.{line-written, read-says, says-read, spread, spread-says}
 use Rattle.desk_line.proofs.OperandLaws.{word-is}

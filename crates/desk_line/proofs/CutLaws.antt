@@ -3,9 +3,9 @@ use Rattle.std.proofs.Common.{◌≡◌, ◌≢◌, ℕ, zero, suc, ◌+◌, ◌
 use Rattle.std.proofs.lemmas.List.{append-nil, length-append}
 use Rattle.louis_table.specs.Lines.{lines_of}
 use Rattle.louis_table.proofs.LineLaws.{lines_of-split}
-use Rattle.desk_line.specs.declared.head.Head.{Head}
-use Rattle.desk_line.specs.Head.{Says}
-use Rattle.desk_line.specs.Reading.{head_line, head_of}
+use Rattle.desk_line.specs.declared.read.Head.{Head}
+use Rattle.desk_line.specs.HeadLine.{Says}
+use Rattle.desk_line.specs.ReadingSteps.{head_line, head_of}
 use Rattle.desk_line.specs.Lines.{after_first_line}
 use Rattle.desk_line.specs.Request.{IsLast, IsRequestBefore, IsWhole, Requests, Takes, WholeRequests, last, block_lines, said, unsaid, whole}
 use Rattle.desk_line.proofs.HeadLaws.{head-found}

@@ -5,7 +5,7 @@ use Rattle.std.specs.List.{position_or_len, before_first, after_first, onto_firs
 use Rattle.std.proofs.lemmas.List.Splits.{slice_split_none, slice_split_first, join_with_byte-slice_split}
 use Rattle.std.proofs.lemmas.List.Sums.{fails_before_first}
 use Rattle.desk_line.specs.Fields.{fields_of, fields_in_rest, line_of_fields}
-use Rattle.desk_line.specs.Reading.{is_end}
+use Rattle.desk_line.specs.ReadingSteps.{is_end}
 
 -- a line with a blank
 pub fields-at-blank : (line field rest : List ℕ) → position_or_len (λ b. eqb b 32) line < length line

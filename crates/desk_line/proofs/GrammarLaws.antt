@@ -2,9 +2,9 @@
 use Rattle.std.proofs.Common.{◌≡◌, ℕ, List, [], ◌∷◌, ◌++◌, Some, option_map, refl, sym, ap, subst, ◌∙◌, append_assoc, arith}
 use Rattle.std.specs.List.{AllByRecursion}
 use Rattle.desk_line.specs.Fields.{fields_of}
-use Rattle.desk_line.specs.Grammar.{Fit, FitsField, Flag, Grammar, Kind, Last, Lines, Look, Name, Nothing, Number, Place, Rest, Say, StandsFor, Then, Value, Values, field_of, given, written}
-use Rattle.desk_line.specs.Reading.{first_of, found, read}
-use Rattle.desk_line.specs.Reply.{shown_text}
+use Rattle.desk_line.specs.Operands.{Fit, FitsField, Flag, Grammar, Kind, Last, Lines, Look, Name, Nothing, Number, Place, Rest, Say, StandsFor, Then, Value, Values, field_of, given, written}
+use Rattle.desk_line.specs.ReadingSteps.{first_of, found, read}
+use Rattle.desk_line.specs.ReplyLines.{shown_text}
 use Rattle.desk_line.proofs.HeadLines.{some-is}
 use Rattle.desk_line.proofs.OperandLaws.{anchor-found, anchor-read, count-found, count-read, flag-found, flag-read, name-found, name-read, number-found, number-read, style-found, style-read}
 use Rattle.desk_line.proofs.WrittenFields.{IsClosed, IsLine, anchor-closed, anchor-written, flag-closed, flag-written, line-closed, line-with-text, name-closed, name-some, name-spelled, number-closed, number-written, rest-spelled, style-closed, style-written, text-plain}

@@ -3,15 +3,15 @@ use Rattle.std.proofs.Common.{◌≡◌, ℕ, ◌&&◌, eqb, leb, List, [], ◌�
 use Rattle.std.specs.Str.{is_utf8}
 use Rattle.std.proofs.lemmas.Bool.{leb-true, and_parts, eqb-true, cond-false, cases_Bool}
 use Rattle.std.proofs.lemmas.Str.{IsUtf8-from_is_utf8}
-use Rattle.desk_line.specs.declared.head.Head.{Head}
-use Rattle.desk_line.specs.declared.head.Head.TheVariants.{Do, Ask}
+use Rattle.desk_line.specs.declared.read.Head.{Head}
+use Rattle.desk_line.specs.declared.read.Head.TheVariants.{Do, Ask}
 use Rattle.desk_line.specs.declared.directive.Directive.{Directive}
 use Rattle.desk_line.specs.Fields.{fields_of}
 use Rattle.desk_line.specs.Commands.{SaysDirective}
-use Rattle.desk_line.specs.Head.{Expects, nothing, expected, Says, does, asks}
+use Rattle.desk_line.specs.HeadLine.{Expects, nothing, expected, Says, does, asks}
 use Rattle.desk_ends.specs.Limits.{most_line_bytes}
 use Rattle.desk_line.specs.Lines.{CanBeHead}
-use Rattle.desk_line.specs.Reading.{number_in, directive_by, directive_in, query_in, or_else, command_in, head_in, head_of}
+use Rattle.desk_line.specs.ReadingSteps.{number_in, directive_by, directive_in, query_in, or_else, command_in, head_in, head_of}
 use Rattle.desk_line.proofs.HeadLines.{head-of-text, some-none, unfound}
 use Rattle.desk_line.proofs.OperandLaws.{made-of-both, taken, number-read, number-found}
 use Rattle.desk_line.proofs.CommandLaws.{asked-unsaid, directive-read, directive-read-by, directive-found, query-read, query-found}

@@ -4,11 +4,11 @@ use Rattle.std.specs.Prelude.{Option, None, Some}
 use Rattle.std.specs.Str.{IsUtf8, is_utf8}
 use Rattle.std.proofs.lemmas.Bool.{le-leb, leb-true, eqb-true, cond-false, cases_Bool}
 use Rattle.std.proofs.lemmas.Str.{is_utf8-from_IsUtf8, IsUtf8-from_is_utf8}
-use Rattle.desk_line.specs.declared.head.Head.TheVariants.{Do}
+use Rattle.desk_line.specs.declared.read.Head.TheVariants.{Do}
 use Rattle.desk_line.specs.declared.directive.Directive.{Directive}
 use Rattle.desk_line.specs.Fields.{fields_of}
 use Rattle.desk_ends.specs.Limits.{most_line_bytes}
-use Rattle.desk_line.specs.Reading.{head_in, head_of, command_after, command_in, expecting, first_and_others, number_in, directive_by, directive_in}
+use Rattle.desk_line.specs.ReadingSteps.{head_in, head_of, command_after, command_in, expecting, first_and_others, number_in, directive_by, directive_in}
 
 pub some-is : {A : Type 0} (x y : A) → Some x ≡ Some y → x ≡ y
 some-is x y e = cc

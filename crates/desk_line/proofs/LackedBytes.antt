@@ -10,7 +10,7 @@ use Rattle.std.proofs.lemmas.List.{append-nil}
 use Rattle.std.proofs.lemmas.Str.{inside_one}
 use Rattle.louis_table.proofs.LineLaws.{IsOneLine}
 use Rattle.desk_line.specs.Fields.{line_of_fields}
-use Rattle.desk_line.specs.Reply.{shown_text}
+use Rattle.desk_line.specs.ReplyLines.{shown_text}
 
 pub other-byte : (b byte : ℕ) → b ≢ byte → eqb b byte ≡ false
 other-byte b byte n = elim (cases_Bool (eqb b byte)) [ inl t ↦ absurd (n (eqb-true b byte t)) | inr f ↦ f ]

@@ -4,7 +4,7 @@ use Rattle.std.proofs.lemmas.Bool.{lt-ltb, le-leb, leb-true, cases_Bool}
 use Rattle.louis_table.specs.Lines.{lines_of}
 use Rattle.louis_table.proofs.LineLaws.{lines_of-split}
 use Rattle.desk_ends.specs.Limits.{most_line_bytes}
-use Rattle.desk_line.specs.Reading.{are_lines, head_line}
+use Rattle.desk_line.specs.ReadingSteps.{are_lines, head_line}
 use Rattle.desk_line.specs.Lines.{after_first_line}
 
 pub not-empty : (bytes : List ℕ) → eqb (length bytes) 0 ≡ false → bytes ≢ []

@@ -17,7 +17,7 @@ use Rattle.desk_model.specs.declared.style.Style.{Style}
 use Rattle.desk_model.specs.declared.style.Style.TheVariants.{Body, Heading}
 use Rattle.desk_line.specs.Fields.{IsName, IsNumber, IsAnchor, front, end, after, IsStyle, body, heading, IsFlag, on, off}
 use Rattle.desk_line.specs.Limits.{most_digits, most_number}
-use Rattle.desk_line.specs.Reading.{of_both, name_in, number_in, small_number, count_in, few_lines, anchor_in, style_in, flag_in}
+use Rattle.desk_line.specs.ReadingSteps.{of_both, name_in, number_in, small_number, count_in, few_lines, anchor_in, style_in, flag_in}
 use Rattle.desk_line.proofs.DigitValues.{digit-in-range}
 use Rattle.desk_line.proofs.HeadLines.{some-is, some-none}
 

@@ -6,7 +6,7 @@ use Rattle.std.specs.Char.{encode_utf8}
 use Rattle.std.specs.List.{flat_map}
 use Rattle.std.specs.Prelude.{map}
 use Rattle.desk_line.specs.Fields.{line_of_fields}
-use Rattle.desk_line.specs.Reply.{line_of, shown_line}
+use Rattle.desk_line.specs.ReplyLines.{line_of, shown_line}
 
 -- a character of two bytes
 pub encode-two : (c : ℕ) → 128 ≤ c → c < 2048 → encode_utf8 c ≡ (192 + c / 64) ∷ (128 + c % 64) ∷ []

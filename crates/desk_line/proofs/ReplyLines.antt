@@ -10,16 +10,16 @@ use Rattle.louis_table.proofs.LineLaws.{pieces_of-line}
 use Rattle.desk_model.specs.declared.style.Style.{Style}
 use Rattle.desk_model.specs.declared.style.Style.TheVariants.{Body, Heading}
 use Rattle.desk_model.specs.Book.{Book, Entry, Corrects, Undoes, Mark, Paragraph}
-use Rattle.desk_model.specs.Name.{is_name_character, is_proofreader_character}
+use Rattle.desk_model.specs.ValidNames.{is_name_character, is_proofreader_character}
 use Rattle.desk_model.specs.Print.{print_of}
-use Rattle.desk_model.specs.Numbers.{code_of}
+use Rattle.desk_model.specs.Codes.{code_of}
 use Rattle.desk_model.specs.Sound.{IsSound, IsSoundEntry, IsSoundMark, IsSoundParagraph}
-use Rattle.desk_model.specs.NormalForm.{IsUnbarred, is_barred}
+use Rattle.desk_model.specs.BookTexts.{IsUnbarred, is_barred}
 use Rattle.desk_model.proofs.Callers.{IsSoundParagraph-found, IsSoundTable-found, unbarred-print}
 use Rattle.desk_ends.specs.Cells.{text_of}
 use Rattle.desk_line.specs.declared.request.Query.{Query}
 use Rattle.desk_line.specs.Fields.{line_of_fields}
-use Rattle.desk_line.specs.Reply.{BeginsWith, EndsAfterBars, RepliesToQuery, ShowsLines, print, braille, history, marks, where_is, whence, list, version, shown, refused, details, entry_line, list_line, mark_line, shown_line, shown_text, style_word, word_and, word_if}
+use Rattle.desk_line.specs.ReplyLines.{BeginsWith, EndsAfterBars, RepliesToQuery, ShowsLines, print, braille, history, marks, where_is, whence, list, version, shown, refused, details, entry_line, list_line, mark_line, shown_line, shown_text, style_word, word_and, word_if}
 use Rattle.desk_line.proofs.LackedBytes.{Lacks, Lacks-decimal, Lacks-joined, Lacks-shown, lacks, one-line, other-byte}
 
 -- a line without a line feed

@@ -11,14 +11,14 @@ use Rattle.desk_line.specs.Fields.{line_of_fields}
 use Rattle.desk_model.specs.declared.refusal.Refusal.{Refusal}
 use Rattle.desk_model.specs.declared.refusal.Refusal.TheVariants as refusals
 use Rattle.desk_model.specs.declared.history_item.Done.TheVariants.{Corrected, TookBack}
-use Rattle.desk_model.specs.Numbers.{code_of}
+use Rattle.desk_model.specs.Codes.{code_of}
 use Rattle.desk_model.specs.Book.{Book, Entry, Corrects, Undoes, Mark, Paragraph, Replacement, paragraph_of}
 use Rattle.desk_model.specs.Print.{print_of}
 use Rattle.desk_model.specs.HistoryItems.{TellsOf}
 use Rattle.desk_model.specs.Translation.{LacksCell, LacksPlace}
 use Rattle.desk_line.specs.declared.request.Query.{Query}
 use Rattle.desk_line.specs.declared.request.Query.TheVariants as queries
-use Rattle.desk_line.specs.Reply.{Refuses, no_paragraph, no_place, no_cell, paragraph_asked, ShowsLines, correction_line, details, entry_line, line_of, list_line, mark_line, style_word, refusal_line, shown_line, shown_text, word_and, word_if}
+use Rattle.desk_line.specs.ReplyLines.{Refuses, no_paragraph, no_place, no_cell, paragraph_asked, ShowsLines, correction_line, details, entry_line, line_of, list_line, mark_line, style_word, refusal_line, shown_line, shown_text, word_and, word_if}
 
 -- a refusal by its code and its details
 pub refusal-text : (refusal : Refusal) (code : ℕ) (numbers : List ℕ) → code ≡ code_of refusal → numbers ≡ details refusal
@@ -38,15 +38,15 @@ shown-one was book query line shows s = (line ∷ [], shows, Transmits-same was 
 
 -- ---- one line
 
-pub mark-fields : (told : Mark) (id start end state touch note : List ℕ) → id ≡ decimal told.id → start ≡ decimal told.start → end ≡ decimal told.end
-    → state ≡ word_if told.resolved (codes "resolved") (codes "open") → touch ≡ word_if told.touched (codes "touched") (codes "kept") → note ≡ shown_text told.note
-    → line_of (codes "|" ∷ id ∷ start ∷ end ∷ state ∷ touch ∷ note ∷ []) ≡ shown_line (mark_line told)
-mark-fields told id start end state touch note a b c d e f = rw (a, b, c, d, e, f) refl
+pub mark-fields : (reported : Mark) (id start end state touch note : List ℕ) → id ≡ decimal reported.id → start ≡ decimal reported.start → end ≡ decimal reported.end
+    → state ≡ word_if reported.resolved (codes "resolved") (codes "open") → touch ≡ word_if reported.touched (codes "touched") (codes "kept") → note ≡ shown_text reported.note
+    → line_of (codes "|" ∷ id ∷ start ∷ end ∷ state ∷ touch ∷ note ∷ []) ≡ shown_line (mark_line reported)
+mark-fields reported id start end state touch note a b c d e f = rw (a, b, c, d, e, f) refl
 
-pub list_line-fields : (told : Paragraph) (id table style volume life size : List ℕ) → id ≡ decimal told.id → table ≡ shown_text told.table
-    → style ≡ style_word told.style → volume ≡ word_if told.begins_volume (codes "volume") (codes "-") → life ≡ word_if told.struck (codes "struck") (codes "live") → size ≡ decimal (length (print_of told))
-    → line_of (codes "|" ∷ id ∷ table ∷ style ∷ volume ∷ life ∷ size ∷ []) ≡ shown_line (list_line told)
-list_line-fields told id table style volume life size a b c d e f = rw (a, b, c, d, e, f) refl
+pub list_line-fields : (reported : Paragraph) (id table style volume life size : List ℕ) → id ≡ decimal reported.id → table ≡ shown_text reported.table
+    → style ≡ style_word reported.style → volume ≡ word_if reported.begins_volume (codes "volume") (codes "-") → life ≡ word_if reported.struck (codes "struck") (codes "live") → size ≡ decimal (length (print_of reported))
+    → line_of (codes "|" ∷ id ∷ table ∷ style ∷ volume ∷ life ∷ size ∷ []) ≡ shown_line (list_line reported)
+list_line-fields reported id table style volume life size a b c d e f = rw (a, b, c, d, e, f) refl
 
 -- an entry with its parts as bytes: a correction by nobody, one by a proofreader, and an undo
 pub unnamed-fields : (entry : Entry) (number start count : ℕ) (text who : Bor (List ℕ)) → TellsOf entry (Corrected start count text who) → who.now ≡ []

@@ -8,13 +8,13 @@ use Rattle.std.proofs.lemmas.Str.{IsUtf8-nil}
 use Rattle.louis_table.specs.Lines.{lines_of}
 use Rattle.louis_table.proofs.LineLaws.{lines_of-split}
 use Rattle.louis_table.proofs.CharacterLaws.{and_then_some}
-use Rattle.desk_line.specs.declared.head.Head.{Head}
-use Rattle.desk_line.specs.declared.head.Head.TheVariants as heads
+use Rattle.desk_line.specs.declared.read.Head.{Head}
+use Rattle.desk_line.specs.declared.read.Head.TheVariants as heads
 use Rattle.desk_line.specs.declared.request.Request.{Request}
-use Rattle.desk_line.specs.Head.{Says}
+use Rattle.desk_line.specs.HeadLine.{Says}
 use Rattle.desk_ends.specs.Limits.{most_line_bytes}
 use Rattle.desk_line.specs.Lines.{IsShort, after_first_line}
-use Rattle.desk_line.specs.Reading.{are_lines, head_line, head_in, head_of, query_in, directive_in, request_in, with_text}
+use Rattle.desk_line.specs.ReadingSteps.{are_lines, head_line, head_in, head_of, query_in, directive_in, request_in, with_text}
 use Rattle.desk_line.specs.Request.{AsksForMemory, HasHead, IsNoRequest, Reads, Takes, said, unsaid, block_lines, request_of}
 use Rattle.desk_line.proofs.HeadLines.{some-is, some-none, head-of-text}
 use Rattle.desk_line.proofs.HeadLaws.{head-read, head-found}

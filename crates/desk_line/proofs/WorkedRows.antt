@@ -14,18 +14,18 @@ use Rattle.desk_model.specs.declared.style.Style.TheVariants.{Body}
 use Rattle.desk_model.specs.Book.{empty_book, Corrects, Undoes, new_mark}
 use Rattle.desk_line.specs.declared.answer.Answer.TheVariants as answers
 use Rattle.desk_line.specs.declared.directive.Directive.TheVariants.{Whole, Table}
-use Rattle.desk_line.specs.declared.head.Head.{Head}
-use Rattle.desk_line.specs.declared.head.Head.TheVariants as heads
+use Rattle.desk_line.specs.declared.read.Head.{Head}
+use Rattle.desk_line.specs.declared.read.Head.TheVariants as heads
 use Rattle.desk_line.specs.declared.request.Query.TheVariants as queries
 use Rattle.desk_line.specs.declared.request.Request.{Request}
 use Rattle.desk_line.specs.declared.request.Request.TheVariants as requests
 use Rattle.desk_line.specs.Fields.{IsNumber, end, fields_of}
 use Rattle.desk_line.specs.Commands.{SaysDirective, form, form_fields}
-use Rattle.desk_line.specs.Head.{Says, asks, does, expected, nothing}
+use Rattle.desk_line.specs.HeadLine.{Says, asks, does, expected, nothing}
 use Rattle.desk_line.specs.Lines.{CanBeHead}
-use Rattle.desk_line.specs.Reading.{head_in, head_of, query_in, directive_in, first_of, number_in, count_in, anchor_in}
-use Rattle.desk_line.specs.Answers.{Replies, asked, no_request}
-use Rattle.desk_line.specs.Reply.{IsReply, entry_line, list_line, mark_line, no_paragraph, refusal_line, refused as refused_query, shown, shown_line, shown_text, version as shows_version}
+use Rattle.desk_line.specs.ReadingSteps.{head_in, head_of, query_in, directive_in, first_of, number_in, count_in, anchor_in}
+use Rattle.desk_line.specs.Answered.{Replies, asked, no_request}
+use Rattle.desk_line.specs.ReplyLines.{IsReply, entry_line, list_line, mark_line, no_paragraph, refusal_line, refused as refused_query, shown, shown_line, shown_text, version as shows_version}
 use Rattle.desk_line.specs.Request.{IsWhole, Reads, Requests, Takes, WholeRequests, last, said, unsaid, whole}
 use Rattle.desk_line.proofs.HeadLines.{head-of-long, head-of-text}
 use Rattle.desk_line.proofs.HeadLaws.{head-found}

@@ -14,13 +14,13 @@ use Rattle.std.proofs.lemmas.Str.{IsUtf8-append}
 use Rattle.louis_table.specs.Lines.{lines_of}
 use Rattle.louis_table.proofs.LineLaws.{pieces_of-line}
 use Rattle.desk_model.specs.declared.command.Command.{Command}
-use Rattle.desk_line.specs.declared.head.Head.{Head}
-use Rattle.desk_line.specs.declared.head.Head.TheVariants as heads
+use Rattle.desk_line.specs.declared.read.Head.{Head}
+use Rattle.desk_line.specs.declared.read.Head.TheVariants as heads
 use Rattle.desk_line.specs.declared.request.Request.{Request}
 use Rattle.desk_line.specs.declared.request.Request.TheVariants as requests
 use Rattle.desk_line.specs.Commands.{form, form_fields}
 use Rattle.desk_line.specs.Fields.{fields_of, line_of_fields}
-use Rattle.desk_line.specs.Head.{Expects, Says, asks, does, expected, nothing}
+use Rattle.desk_line.specs.HeadLine.{Expects, Says, asks, does, expected, nothing}
 use Rattle.desk_line.specs.Lines.{IsShort, after_first_line}
 use Rattle.desk_line.specs.Request.{Reads, block_lines, request_of}
 use Rattle.desk_line.specs.RequestText.{CanBeWritten, IsSmallIfAny, expecting_line, head_text, query_fields, query_form, request_text}

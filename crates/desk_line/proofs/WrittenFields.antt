@@ -15,8 +15,8 @@ use Rattle.desk_model.specs.declared.style.Style.TheVariants.{Body, Heading}
 use Rattle.desk_model.proofs.Rows.BookRows.{encoded-text, spelled-encoded}
 use Rattle.desk_line.specs.Commands.{is_visible}
 use Rattle.desk_line.specs.Fields.{IsAnchor, IsFlag, IsNumber, IsStyle, after, body, end, fields_of, front, heading, line_of_fields, off, on}
-use Rattle.desk_line.specs.Grammar.{IsOneLineText, IsSmall, IsSmallAnchor, IsWord, anchor_field}
-use Rattle.desk_line.specs.Reply.{shown_text, style_word, word_if}
+use Rattle.desk_line.specs.Operands.{IsOneLineText, IsSmall, IsSmallAnchor, IsWord, anchor_field}
+use Rattle.desk_line.specs.ReplyLines.{shown_text, style_word, word_if}
 use Rattle.desk_line.proofs.LackedBytes.{Lacks, Lacks-decimal, Lacks-joined, Lacks-shown, other-byte}
 
 -- ---- fields

@@ -8,8 +8,8 @@ use Rattle.desk_model.specs.declared.command.Command.{Command}
 use Rattle.desk_model.specs.declared.command.Command.TheVariants as commands
 use Rattle.desk_line.specs.declared.directive.Directive.{Directive}
 use Rattle.desk_line.specs.declared.directive.Directive.TheVariants.{Whole, Table}
-use Rattle.desk_line.specs.Grammar.{Fit, Flag, Grammar, Last, Lines, Look, Name, Nothing, Number}
-use Rattle.desk_line.specs.Grammar.{Place, Rest, Then, Values, Say, given, written}
+use Rattle.desk_line.specs.Operands.{Fit, Flag, Grammar, Last, Lines, Look, Name, Nothing, Number}
+use Rattle.desk_line.specs.Operands.{Place, Rest, Then, Values, Say, given, written}
 use Rattle.desk_line.specs.Lines.{IsShort}
 
 -- ---- how a head line says a command

@@ -1,11 +1,11 @@
 pub mod Limits
 pub mod Lines
 pub mod Fields
-pub mod Reply
-pub mod Grammar
+pub mod ReplyLines
+pub mod Operands
 pub mod Commands
-pub mod Head
+pub mod HeadLine
 pub mod Request
-pub mod Answers
+pub mod Answered
 pub mod RequestText
-pub mod Reading
+pub mod ReadingSteps

@@ -2,13 +2,13 @@
 use Rattle.std.specs.Prelude.{◌≡◌, ℕ, ◌≤◌, List, [], ◌∷◌, ◌++◌, length, Option, ◌<◌}
 use Rattle.std.specs.List.{AllByRecursion}
 use Rattle.louis_table.specs.Lines.{lines_of}
-use Rattle.desk_line.specs.declared.head.Head.{Head}
-use Rattle.desk_line.specs.declared.head.Head.TheVariants as heads
+use Rattle.desk_line.specs.declared.read.Head.{Head}
+use Rattle.desk_line.specs.declared.read.Head.TheVariants as heads
 use Rattle.desk_line.specs.declared.directive.Directive.{Directive}
 use Rattle.desk_line.specs.declared.request.Request.{Request}
 use Rattle.desk_line.specs.declared.request.Request.TheVariants.{Do, Ask}
 use Rattle.desk_line.specs.Commands.{announced}
-use Rattle.desk_line.specs.Head.{Says}
+use Rattle.desk_line.specs.HeadLine.{Says}
 use Rattle.desk_line.specs.Lines.{IsShort, after_first_line}
 
 -- ---- what follows a head line

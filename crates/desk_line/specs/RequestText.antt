@@ -8,8 +8,8 @@ use Rattle.desk_line.specs.declared.request.Request.{Request}
 use Rattle.desk_line.specs.declared.request.Request.TheVariants.{Do, Ask}
 use Rattle.desk_line.specs.Commands.{FitsForm, form, form_fields, is_visible}
 use Rattle.desk_line.specs.Fields.{line_of_fields}
-use Rattle.desk_line.specs.Grammar.{Fit, IsSmall, Values, given, written}
-use Rattle.desk_line.specs.Head.{query_grammar}
+use Rattle.desk_line.specs.Operands.{Fit, IsSmall, Values, given, written}
+use Rattle.desk_line.specs.HeadLine.{query_grammar}
 use Rattle.desk_line.specs.Lines.{IsShort}
 
 -- ---- how a query is written

@@ -1,7 +1,7 @@
 //! What the head line of a command says, and the command that it makes with the lines after it.
 ghost use Rattle.desk_line.specs.Commands.{announced, span, textless};
-ghost use Rattle.desk_line.specs.Grammar.{Last, Name, Place, Rest, Then};
-ghost use Rattle.desk_line.specs.Reading.{directive_by, read};
+ghost use Rattle.desk_line.specs.Operands.{Last, Name, Place, Rest, Then};
+ghost use Rattle.desk_line.specs.ReadingSteps.{directive_by, read};
 ghost use Rattle.louis_table.specs.declared.en.TheConstants.{EN};
 ghost use Rattle.std.specs.Prelude.{◌≡◌, []};
 

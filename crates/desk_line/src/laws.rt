@@ -1,7 +1,7 @@
 //! Laws of requests and replies.
 ghost use Rattle.desk_model.specs.Book.{Book};
 ghost use Rattle.desk_model.specs.Sound.{IsSound};
-ghost use Rattle.desk_line.specs.Reply.{EndsAfterBars, RepliesToQuery};
+ghost use Rattle.desk_line.specs.ReplyLines.{EndsAfterBars, RepliesToQuery};
 ghost use Rattle.desk_line.specs.Limits.{most_digits, most_number};
 ghost use Rattle.desk_line.specs.declared.limits.TheConstants.{MOST_DIGITS, MOST_NUMBER};
 ghost use Rattle.desk_line.specs.declared.request.Query.{Query};

@@ -20,10 +20,8 @@
 mod answer;
 mod directive;
 mod fields;
-mod head;
 pub mod laws;
 mod limits;
-mod operand;
 mod query;
 mod read;
 mod reply;

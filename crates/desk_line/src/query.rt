@@ -1,12 +1,12 @@
 //! What the head line of a query asks.
-ghost use Rattle.desk_line.specs.Reading.{query_by, query_in};
+ghost use Rattle.desk_line.specs.ReadingSteps.{query_by, query_in};
 ghost use Rattle.std.specs.Prelude.{◌≡◌};
 
 use super::fields::Fields;
 use super::request::Query;
 
 /// The query that the fields of a line ask.
-#[tactic(auto, unfolding(crate::specs::Reading::query_in))]
+#[tactic(auto, unfolding(crate::specs::ReadingSteps::query_in))]
 pub(crate) fn read_query(fields: Fields<'_>) -> Option<Query>
     ensures { result ≡ query_in fields.entry }
 {

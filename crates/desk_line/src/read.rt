@@ -1,14 +1,16 @@
-//! Reads requests.
-ghost use Rattle.desk_line.specs.Head.{Says};
-ghost use Rattle.desk_line.specs.Reading.{are_lines, with_text};
+//! Reads requests: a head line, and the lines that it announces.
+ghost use Rattle.desk_line.specs.Fields.{fields_of};
+ghost use Rattle.desk_line.specs.HeadLine.{Says};
+ghost use Rattle.desk_line.specs.ReadingSteps.{are_lines, command_in, expecting, head_in, head_of, with_text};
 ghost use Rattle.desk_line.specs.Request.{HasHead, IsNoRequest, Reads, Takes, block_lines};
-ghost use Rattle.desk_line.specs.declared.head.Head.{Head};
+ghost use Rattle.desk_line.specs.declared.read.Head.{Head};
 ghost use Rattle.louis_table.specs.Lines.{lines_of};
-ghost use Rattle.std.specs.Prelude.{◌≡◌, List, MatchOption, ℕ};
+ghost use Rattle.std.specs.Prelude.{List, MatchOption, ℕ, ◌≡◌};
 
-use super::directive::make_command;
-use super::head::{Head, block_lines, read_head};
-use super::request::Request;
+use super::directive::{Directive, make_command, read_directive};
+use super::fields::{Fields, read_number};
+use super::query::read_query;
+use super::request::{Query, Request};
 use desk_ends::{MOST_LINE_BYTES, split_line};
 use std::marker::Model;
 
@@ -19,7 +21,7 @@ pub struct RequestHead<'a> {
 }
 
 impl<'a> Model for RequestHead<'a> {
-    ghost use Rattle.desk_line.specs.declared.head.Head.{Head};
+    ghost use Rattle.desk_line.specs.declared.read.Head.{Head};
 
     ghost Value = { Head };
 
@@ -110,4 +112,86 @@ fn are_lines(bytes: &[u8], count: u64) -> bool
         rest = later;
     }
     left == 0
+}
+
+/// What a head line says.
+#[derive(Drop)]
+pub(crate) enum Head<'a> {
+    /// A command.
+    Do {
+        /// The command.
+        directive: Directive<'a>,
+        /// The version that the book is expected to have, if one is.
+        expect: Option<u64>,
+    },
+    /// A query.
+    Ask(Query),
+}
+
+/// How many lines follow what a head line says.
+pub(crate) fn block_lines(head: &Head<'_>) -> u64
+    ensures { result ≡ block_lines head.now }
+{
+    match head {
+        Head::Do {
+            directive: Directive::Table { count, .. },
+            ..
+        } => *count,
+        _ => 0,
+    }
+}
+
+/// What a head line, without its ending, says, if it says anything.
+pub(crate) fn read_head(line: &[u8]) -> Option<Head<'_>>
+    ensures { result ≡ head_of line.now }
+{
+    if line.len() > MOST_LINE_BYTES {
+        return None;
+    }
+    match str::from_utf8(line) {
+        Ok(text) => read_text(text),
+        Err(_) => None,
+    }
+}
+
+/// What the text of a head line says.
+#[tactic(auto, unfolding(crate::specs::ReadingSteps::head_in))]
+fn read_text(text: &str) -> Option<Head<'_>>
+    ensures { result ≡ head_in (fields_of text.now) }
+{
+    if let Some(query) = read_query(Fields::new(text)) {
+        return Some(Head::Ask(query));
+    }
+    read_command(Fields::new(text))
+}
+
+/// The command that the fields of a line give.
+fn read_command(fields: Fields<'_>) -> Option<Head<'_>>
+    ensures { result ≡ command_in fields.entry }
+{
+    let (word, others) = fields.split()?;
+    match word.strip_prefix('@') {
+        Some(version) => read_expecting(version.as_bytes(), others),
+        None => {
+            let directive = read_directive(word, others)?;
+            Some(Head::Do {
+                directive,
+                expect: None,
+            })
+        }
+    }
+}
+
+/// The command after an expected version.
+#[tactic(auto, unfolding(crate::specs::ReadingSteps::directive_in))]
+fn read_expecting<'a>(version: &[u8], fields: Fields<'a>) -> Option<Head<'a>>
+    ensures { result ≡ expecting version.now fields.entry }
+{
+    let version = read_number(version)?;
+    let (word, others) = fields.split()?;
+    let directive = read_directive(word, others)?;
+    Some(Head::Do {
+        directive,
+        expect: Some(version),
+    })
 }

@@ -1,6 +1,6 @@
 //! Writes replies.
 ghost use Rattle.desk_ends.specs.Sending.{Puts};
-ghost use Rattle.desk_line.specs.Reply.{IsReplied, PutsQueryReply, PutsReply, PutsShown, Refuses, refusal_line};
+ghost use Rattle.desk_line.specs.ReplyLines.{IsReplied, PutsQueryReply, PutsReply, PutsShown, Refuses, refusal_line};
 ghost use Rattle.std.specs.Prelude.{MatchResult, is_ok, ◌++◌, ◌≡◌};
 
 use super::answer::Answer;

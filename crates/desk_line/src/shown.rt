@@ -5,7 +5,7 @@ ghost use Rattle.desk_model.specs.ParagraphMarks.{TellsOf as TellsOfMark};
 ghost use Rattle.desk_model.specs.HistoryItems.{TellsOf};
 ghost use Rattle.desk_ends.specs.Cells.{text_of};
 ghost use Rattle.desk_ends.specs.Sending.{Puts};
-ghost use Rattle.desk_line.specs.Reply.{entry_line, list_line, mark_line, shown_line, shown_text};
+ghost use Rattle.desk_line.specs.ReplyLines.{entry_line, list_line, mark_line, shown_line, shown_text};
 ghost use Rattle.std.specs.List.{flat_map};
 ghost use Rattle.std.specs.Prelude.{decimal, is_ok, map, ◌++◌};
 
@@ -108,9 +108,9 @@ pub(crate) fn put_marks<K: Sink>(sink: &mut K, block: &mut Block, marks: Paragra
 
 /// Puts a mark.
 fn put_mark<K: Sink>(sink: &mut K, block: &mut Block, mark: &MarkItem<'_>) -> Sent
-    ensures { (told : BookMark) → TellsOfMark told mark.now
+    ensures { (reported : BookMark) → TellsOfMark reported mark.now
         → Puts K.Sink sink.old sink.new
-        (block.old ++ shown_line (mark_line told)) block.new (is_ok result) }
+        (block.old ++ shown_line (mark_line reported)) block.new (is_ok result) }
 {
     let mut id = Buffer::new();
     let mut start = Buffer::new();
@@ -137,9 +137,9 @@ pub(crate) fn put_list<K: Sink>(sink: &mut K, block: &mut Block, list: List<'_>)
 
 /// Puts a paragraph of the list.
 fn put_listed<K: Sink>(sink: &mut K, block: &mut Block, paragraph: &ListItem<'_>) -> Sent
-    ensures { (told : BookParagraph) → IsListed told paragraph.now
+    ensures { (reported : BookParagraph) → IsListed reported paragraph.now
         → Puts K.Sink sink.old sink.new
-        (block.old ++ shown_line (list_line told)) block.new (is_ok result) }
+        (block.old ++ shown_line (list_line reported)) block.new (is_ok result) }
 {
     let mut id = Buffer::new();
     let mut length = Buffer::new();

@@ -1,6 +1,6 @@
 //! Puts texts after the output buffer, and allocates nothing.
 ghost use Rattle.desk_ends.specs.Sending.{Puts};
-ghost use Rattle.desk_line.specs.Reply.{line_of, shown_text, word_and};
+ghost use Rattle.desk_line.specs.ReplyLines.{line_of, shown_text, word_and};
 ghost use Rattle.std.specs.Char.{encode_utf8};
 ghost use Rattle.std.specs.Prelude.{codes, decimal, is_ok, map, ◌++◌, ◌<◌, ◌≤◌, ◌∷◌};
 

@@ -14,4 +14,4 @@ pub use Rattle.desk_memory.proofs.MarkIndexes.{AreMarks-on, count-indexes, few-o
 pub use Rattle.desk_memory.proofs.MarkSettled.{AreWithin-sound, IsWithin-sound, count-marks, found-mark, marks-elsewhere, marks-moved, marks-push, marks-resolved}
 -- A list that an iterator walks, item by item.
 pub use Rattle.desk_memory.proofs.WalkedLists.{lent-past, lent-there, walk-at, walk-past, walk-there}
-pub use Rattle.desk_memory.proofs.ToldEntries.{slice_get-enumerate}
+pub use Rattle.desk_memory.proofs.ReportedEntries.{slice_get-enumerate}

@@ -11,6 +11,6 @@ pub mod ReadParagraphs
 pub mod Renewing
 pub mod Replacing
 pub mod RoomLists
-pub mod ToldEntries
+pub mod ReportedEntries
 pub mod UndonePrints
 pub mod WalkedLists

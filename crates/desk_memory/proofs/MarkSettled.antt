@@ -15,7 +15,7 @@ use Rattle.desk_model.specs.Limits.{most_print}
 use Rattle.desk_model.specs.Marks.{mark_moved_by}
 use Rattle.desk_model.specs.Print.{corrected_print}
 use Rattle.desk_model.specs.Sound.{IsSound, IsSoundMark}
-use Rattle.desk_model.specs.Step.{with_marks_moved, with_resolved}
+use Rattle.desk_model.specs.NextBook.{with_marks_moved, with_resolved}
 use Rattle.desk_model.proofs.Books.HistoryLists.{enumerate_from-append}
 use Rattle.desk_model.proofs.Lists.Items.{All-from_map}
 use Rattle.desk_model.proofs.Books.SoundBooks.{IsSoundParagraph-found, paragraph_of-within}

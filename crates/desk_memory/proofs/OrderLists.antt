@@ -7,7 +7,7 @@ use Rattle.desk_model.specs.declared.command.Anchor.TheVariants.{Front, End, Par
 use Rattle.desk_model.specs.Book.{Book, Paragraph, paragraph_of}
 use Rattle.desk_memory.specs.Held.{HeldParagraphs, ids, paragraph_held, with_id, with_id_moved}
 use Rattle.desk_model.proofs.Books.ParagraphLists.{ids_of, without_paragraph}
-use Rattle.desk_model.specs.Step.{is_after, with_move, with_paragraph}
+use Rattle.desk_model.specs.NextBook.{is_after, with_move, with_paragraph}
 
 pub ids_of-held : (held : HeldParagraphs) → ids_of (map paragraph_held held) ≡ ids held
 ids_of-held [] = refl

@@ -23,7 +23,7 @@ use Rattle.desk_memory.specs.HeldMarks.{indexes_on}
 use Rattle.desk_model.specs.Limits.{most_paragraphs}
 use Rattle.desk_model.specs.Print.{print_of}
 use Rattle.desk_model.specs.Sound.{IsSound}
-use Rattle.desk_model.specs.Step.{is_after}
+use Rattle.desk_model.specs.NextBook.{is_after}
 
 -- tables by name, in the order of the names
 abbrev pub HeldTables : Type 0

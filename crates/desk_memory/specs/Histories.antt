@@ -6,7 +6,7 @@ use Rattle.desk_memory.specs.declared.history.HeldEntry.TheVariants.{Corrects as
 use Rattle.desk_model.specs.Book.{Replacement, Entry, Corrects, Undoes}
 use Rattle.desk_model.specs.Print.{corrected_print, newest, with_replacement}
 use Rattle.desk_model.specs.Sound.{AreSoundEntries}
-use Rattle.desk_model.specs.Characters.{AreCharacters}
+use Rattle.desk_model.specs.BookTexts.{AreCharacters}
 
 -- what a held correction does: it took as many characters as it has of them
 abbrev pub replacement_held : Correction → Replacement

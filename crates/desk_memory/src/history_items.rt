@@ -41,7 +41,7 @@ impl<'a> History<'a> {
 }
 
 /// What an entry did.
-fn told_of(entry: &HeldEntry) -> Done<'_>
+fn reported_of(entry: &HeldEntry) -> Done<'_>
     ensures { TellsOf (entry_held entry.now) result }
 {
     match entry {
@@ -70,7 +70,7 @@ impl<'a> Iterator for History<'a> {
         self.at += 1;
         Some(HistoryItem {
             number: self.at as u64,
-            done: told_of(entry),
+            done: reported_of(entry),
         })
     }
 }

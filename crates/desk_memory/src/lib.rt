@@ -19,7 +19,6 @@
 //! and `desk_book` changes it by commands.
 #![tactic(auto)]
 
-mod braille;
 mod history;
 mod history_items;
 mod items;
@@ -32,7 +31,6 @@ mod paragraphs;
 mod tables;
 mod texts;
 
-pub use braille::cells_of;
 pub use history::{Correction, HeldEntry, newest, replace_span};
 pub use history_items::History;
 pub use items::{Items, Room};
@@ -43,6 +41,6 @@ pub use limits::{
 pub use list::List;
 pub use marks::{HeldMark, Marks};
 pub use paragraph_marks::ParagraphMarks;
-pub use paragraphs::{Order, Paragraph, Paragraphs, PrintChange, renew_paragraphs};
+pub use paragraphs::{Order, Paragraph, Paragraphs, PrintChange, cells_of, renew_paragraphs};
 pub use tables::{BookTable, BoxedTable, Tables, TablesRoom};
 pub use texts::{count_of, first_barred, is_proofreader_name, is_table_name, normal_form};

@@ -1,22 +1,25 @@
 //! The paragraphs of a book.
-ghost use Rattle.desk_memory.specs.Held.{ids, in_order_of, paragraph_with_id, renewed_items, with_id};
-ghost use Rattle.desk_memory.specs.Held.{with_held_change, with_id_moved, with_new_cells};
+ghost use Rattle.desk_memory.specs.Braille.{AreCellsOf};
+ghost use Rattle.desk_memory.specs.Held.{ids, in_order_of, paragraph_with_id, renewed_items, with_held_change, with_id};
+ghost use Rattle.desk_memory.specs.Held.{with_id_moved, with_new_cells};
 ghost use Rattle.desk_memory.specs.HeldPrints.{HasRoomFor, HasRoomForMark, with_mark, with_print_changed};
-ghost use Rattle.desk_model.specs.Named.{paragraph_before};
 ghost use Rattle.desk_memory.specs.Room.{Suffices};
-ghost use Rattle.desk_model.specs.Step.{is_after};
+ghost use Rattle.desk_model.specs.Limits.{most_paragraphs};
+ghost use Rattle.desk_model.specs.Named.{paragraph_before};
+ghost use Rattle.desk_model.specs.NextBook.{is_after};
+ghost use Rattle.louis_translate.specs.Position.{AreDefined};
 ghost use Rattle.std.specs.List.{Contains, filter, flat_map, insert, position, range_with_len};
 ghost use Rattle.std.specs.Map.{lookup};
 ghost use Rattle.std.specs.Option.{option_copied, option_map_or};
-ghost use Rattle.desk_model.specs.Limits.{most_paragraphs};
-ghost use Rattle.std.specs.Prelude.{IsPermutation, ◌≡◌, ◌+◌, ◌<◌, ◌≤◌, ◌^◌, [], ◌∷◌, ◌++◌, ℕ, IfNone, IfOk, IfSome};
-ghost use Rattle.std.specs.Prelude.{MatchOption, OnOk, Some, ◌==◌, length, map, nat_eq, not, option_map, slice_get};
+ghost use Rattle.std.specs.Prelude.{IfNone, IfOk, IfSome, IsPermutation, MatchOption, OnOk, Some, [], length, map};
+ghost use Rattle.std.specs.Prelude.{nat_eq, not, option_map, slice_get, ℕ, ◌++◌, ◌+◌, ◌<◌, ◌==◌, ◌^◌, ◌∷◌, ◌≡◌, ◌≤◌};
 
 use super::history::HeldEntry;
 use super::items::{Items, Room};
 use cell_core::{Cells, Sequence};
 use desk_model::{Anchor, Style, Text};
 use louis_table::Characters;
+use louis_translate::{Pieces, RuleIndex};
 use std::alloc::{AllocError, Global};
 use std::marker::Model;
 
@@ -426,4 +429,17 @@ impl Paragraphs {
     {
         renew_paragraphs(&mut self.items.items, cells);
     }
+}
+
+/// The cells of a print of defined characters.
+pub fn cells_of(alloc: Global, rules: &RuleIndex, print: &[char]) -> Result<Cells, AllocError>
+    requires { AreDefined rules.now print.now }
+    ensures { IfOk result (AreCellsOf rules.now print.now) }
+{
+    let mut cells = Vec::new(alloc);
+    for piece in Pieces::new(rules, print) {
+        cells.extend_from_slice(piece.sign)?;
+        cells.extend_from_slice(piece.own)?;
+    }
+    Ok(Cells::from_vec(cells))
 }

@@ -1,6 +1,7 @@
 //! Texts as a book holds them, and the names of its tables and of proofreaders.
-ghost use Rattle.desk_model.specs.Name.{IsProofreaderName, IsTableName, is_name_character, is_proofreader_character};
-ghost use Rattle.desk_model.specs.NormalForm.{is_barred, normal_form};
+ghost use Rattle.desk_model.specs.ValidNames.{IsProofreaderName, IsTableName};
+ghost use Rattle.desk_model.specs.ValidNames.{is_name_character, is_proofreader_character};
+ghost use Rattle.desk_model.specs.BookTexts.{is_barred, normal_form};
 ghost use Rattle.std.specs.List.{filter, list_all, position};
 ghost use Rattle.std.specs.Prelude.{◌≡◌, ◌↔◌, IfOk, IsTrue, length, not, chars};
 

@@ -20,10 +20,10 @@ use Rattle.desk_model.specs.Book.{Entry, Corrects, Undoes}
 use Rattle.desk_parts.specs.FileRows.{FileRows, entries_in, format_of, table_of}
 use Rattle.desk_model.specs.Limits.{most_entries, most_marks, most_note, most_paragraphs}
 use Rattle.desk_model.specs.Limits.{most_print, most_tables, most_version}
-use Rattle.desk_model.specs.Name.{IsProofreaderName, IsTableName}
+use Rattle.desk_model.specs.ValidNames.{IsProofreaderName, IsTableName}
 use Rattle.desk_model.specs.Print.{corrected_print, newest}
 use Rattle.desk_parts.specs.Rows.{Tab as TabRow, Para as ParaRow, NamedCorr as EntryRow, Mark as MarkRow, ParaCells}
-use Rattle.desk_model.specs.NormalForm.{IsUnbarred}
+use Rattle.desk_model.specs.BookTexts.{IsUnbarred}
 
 -- ---- numbers
 

@@ -17,4 +17,4 @@ TellsOf (Undoes n) (TookBack m) = m ≡ n
 abbrev pub TellsFirst : List (ℕ × Entry) → Option HistoryItem → List (ℕ × Entry) → Type 0
 TellsFirst entries item left =
     MatchOption item ((entries ≡ []) × (left ≡ []))
-    (λ told. (first : ℕ × Entry) × (entries ≡ first ∷ left) × (told.number ≡ first.0) × TellsOf first.1 told.done)
+    (λ shown. (first : ℕ × Entry) × (entries ≡ first ∷ left) × (shown.number ≡ first.0) × TellsOf first.1 shown.done)

@@ -18,4 +18,4 @@ pub record IsListed (paragraph : Paragraph) (item : ListItem) : Type 0 where
 abbrev pub ListsFirst : List Paragraph → Option ListItem → List Paragraph → Type 0
 ListsFirst paragraphs item left =
     MatchOption item ((paragraphs ≡ []) × (left ≡ []))
-    (λ told. (first : Paragraph) × (paragraphs ≡ first ∷ left) × IsListed first told)
+    (λ shown. (first : Paragraph) × (paragraphs ≡ first ∷ left) × IsListed first shown)

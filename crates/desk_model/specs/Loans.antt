@@ -6,7 +6,7 @@ use Rattle.desk_model.specs.Book.{Book, Mark, Paragraph, paragraph_of}
 use Rattle.desk_parts.specs.Puts.{Flags, Place, Print, PutRow, Resolved, RowPut}
 use Rattle.desk_parts.specs.Puts.{SetColumns, Span, Table, Version, with_puts}
 use Rattle.desk_model.specs.Named.{Retabled, named_by, next_entry}
-use Rattle.desk_model.specs.Step.{next_id}
+use Rattle.desk_model.specs.NextBook.{next_id}
 use Rattle.desk_parts.specs.declared.file_table.FileTable.TheVariants as tables
 use Rattle.desk_parts.specs.FileRows.{FileRows, table_of}
 use Rattle.desk_parts.specs.Rows.{NamedCorr}

@@ -1,16 +1,15 @@
 -- What a command gives and names, which decides its refusals, the number that it answers and the
 -- rows that it may change.
 use Rattle.std.specs.Prelude.{ℕ, ◌+◌, Bool, true, false, List, [], ◌∷◌, length, Option, Some, None, IfSome, option_map}
-use Rattle.desk_model.specs.Characters.{AreCharacters}
+use Rattle.desk_model.specs.BookTexts.{AreCharacters, normal_form}
 use Rattle.desk_model.specs.declared.command.Anchor.{Anchor}
 use Rattle.desk_model.specs.declared.command.Anchor.TheVariants.{Front, End, Para}
 use Rattle.desk_model.specs.declared.command.Command.{Command}
 use Rattle.desk_model.specs.declared.command.Command.TheVariants.{Table, TypeIn, Correct, Undo, Mark, Resolve, Strike}
 use Rattle.desk_model.specs.declared.command.Command.TheVariants.{Restore, Style, Volume, Retable, Move}
 use Rattle.desk_model.specs.Book.{Book, Paragraph, paragraph_of}
-use Rattle.desk_model.specs.NormalForm.{normal_form}
 use Rattle.desk_model.specs.Print.{print_of, print_undone, with_replacement}
-use Rattle.desk_model.specs.Step.{next_id, next_mark, replacement_by}
+use Rattle.desk_model.specs.NextBook.{next_id, next_mark, replacement_by}
 use Rattle.desk_model.specs.Ranks.{bad_table_rank, rank, undefined_rank}
 use Rattle.desk_model.specs.declared.refusal.Refusal.TheVariants.{NoMemory, TooLong}
 

@@ -4,12 +4,12 @@ use Rattle.desk_model.specs.declared.command.Command.{Command}
 use Rattle.desk_model.specs.declared.refusal.Refusal.{Refusal}
 use Rattle.desk_model.specs.Book.{Book}
 use Rattle.desk_model.specs.Refusals.{IsAccepted, IsRefused}
-use Rattle.desk_model.specs.Step.{Makes}
+use Rattle.desk_model.specs.NextBook.{Makes}
 
 -- just one refusal is reported of the command
 pub record HasOneRefusal (book : Book) (expect : Option ℕ) (command : Command) : Type 0 where
   pub refusal : Refusal
-  pub told : IsRefused book expect command refusal
+  pub reported : IsRefused book expect command refusal
   pub only : (other : Refusal) → IsRefused book expect command other → other ≡ refusal
 
 -- no refusal holds of the command, and it makes just one book

@@ -19,4 +19,5 @@ pub record TellsOf (mark : Mark) (item : MarkItem) : Type 0 where
 -- the item shows the first of the marks, and the others are left; or there is none, and no item
 abbrev pub TellsFirst : List Mark → Option MarkItem → List Mark → Type 0
 TellsFirst marks item left =
-    MatchOption item ((marks ≡ []) × (left ≡ [])) (λ told. (first : Mark) × (marks ≡ first ∷ left) × TellsOf first told)
+    MatchOption item ((marks ≡ []) × (left ≡ []))
+    (λ shown. (first : Mark) × (marks ≡ first ∷ left) × TellsOf first shown)

@@ -5,7 +5,7 @@ use Rattle.desk_model.specs.declared.refusal.Refusal.TheVariants.{Moved, BadName
 use Rattle.desk_model.specs.declared.refusal.Refusal.TheVariants.{NoTable, NoMark, Struck, NotStruck, Resolved}
 use Rattle.desk_model.specs.declared.refusal.Refusal.TheVariants.{BadSpan, NothingToUndo, TooLong, Full, BadTable}
 use Rattle.desk_model.specs.declared.refusal.Refusal.TheVariants.{Undefined, Untranslatable, NoMemory}
-use Rattle.desk_model.specs.Numbers.{limit_number}
+use Rattle.desk_model.specs.Codes.{limit_number}
 
 -- the rank of a barred character, wherever it stands
 abbrev pub bad_text_rank : ℕ

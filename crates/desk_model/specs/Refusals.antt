@@ -16,9 +16,9 @@ use Rattle.desk_model.specs.Book.{Book, Paragraph, text_of, paragraph_of, mark_o
 use Rattle.desk_model.specs.Print.{newest, print_of}
 use Rattle.desk_model.specs.Limits.{most_entries, most_marks, most_note, most_version}
 use Rattle.desk_model.specs.Limits.{most_tables, most_paragraphs, most_print}
-use Rattle.desk_model.specs.Name.{IsProofreaderName, IsTableName}
+use Rattle.desk_model.specs.ValidNames.{IsProofreaderName, IsTableName}
 use Rattle.desk_model.specs.Named.{Cells, Changed, Characters, Retabled, Span, Translated, Typed, named_by}
-use Rattle.desk_model.specs.NormalForm.{IsFirstBarred}
+use Rattle.desk_model.specs.BookTexts.{IsFirstBarred}
 use Rattle.desk_model.specs.Translation.{LacksCells}
 use Rattle.desk_model.specs.Ranks.{rank}
 
@@ -29,7 +29,7 @@ pub record IsMoved (book : Book) (expect : Option ℕ) (version : ℕ) : Type 0 
   pub expected : ℕ
   pub given : expect ≡ Some expected
   pub other : expected ≢ book.version
-  pub told : version ≡ book.version
+  pub reported : version ≡ book.version
 
 -- the book has the paragraph, and its print ends before the characters do, or its braille before
 -- the cells do, or no cell is asked for
@@ -101,7 +101,7 @@ pub record IsFirstUser (meaning : Meaning) (name : List ℕ) (paragraphs : List 
   pub after : List Paragraph
   pub parts : paragraphs ≡ before ++ paragraph ∷ after
   pub uses : paragraph.table ≡ name
-  pub told : id ≡ paragraph.id
+  pub reported : id ≡ paragraph.id
   pub first : IsFirstUndefined meaning (print_of paragraph) place
   pub others : All (DefinesUser meaning name) before
 

@@ -11,9 +11,8 @@ use Rattle.desk_model.specs.Book.{Entry, Corrects, Undoes, Paragraph, Mark, Book
 use Rattle.desk_model.specs.Print.{corrected_print, newest, print_of}
 use Rattle.desk_model.specs.Limits.{most_entries, most_marks, most_note, most_paragraphs}
 use Rattle.desk_model.specs.Limits.{most_print, most_tables, most_version}
-use Rattle.desk_model.specs.NormalForm.{IsClean}
-use Rattle.desk_model.specs.Characters.{AreCharacters}
-use Rattle.desk_model.specs.Name.{IsProofreaderName, IsTableName}
+use Rattle.desk_model.specs.BookTexts.{AreCharacters, IsClean}
+use Rattle.desk_model.specs.ValidNames.{IsProofreaderName, IsTableName}
 
 -- ---- histories
 

@@ -18,7 +18,7 @@ ghost use Rattle.desk_parts.specs.Rows.{ParaCells, NamedCorr};
 ghost use Rattle.desk_model.specs.SameRows.{AreSameRows};
 ghost use Rattle.desk_model.specs.Shows.{AreCached, IsUnnamed, Shows};
 ghost use Rattle.desk_model.specs.Sound.{IsSound};
-ghost use Rattle.desk_model.specs.Step.{Makes};
+ghost use Rattle.desk_model.specs.NextBook.{Makes};
 ghost use Rattle.std.specs.Prelude.{All, IsNone, IsSome, List, None, Option, [], ℕ, ℤ, ◌++◌, ◌↔◌, ◌≡◌};
 
 /// A list of commands, cut anywhere: the whole of it makes of a book what its second part makes of

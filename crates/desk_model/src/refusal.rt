@@ -1,5 +1,5 @@
 //! Why a command or a query is refused.
-ghost use Rattle.desk_model.specs.Numbers.{code_of, limit_number};
+ghost use Rattle.desk_model.specs.Codes.{code_of, limit_number};
 ghost use Rattle.std.specs.Prelude.{◌≡◌};
 
 use louis_table::TableFault;

@@ -1,6 +1,6 @@
 //! Texts as their characters, and bytes.
 ghost use Rattle.std.specs.Prelude.{◌≡◌, List, ℕ, string_bytes, chars};
-ghost use Rattle.desk_model.specs.Characters.{AreCharacters};
+ghost use Rattle.desk_model.specs.BookTexts.{AreCharacters};
 
 use cell_core::Sequence;
 use std::marker::Model;

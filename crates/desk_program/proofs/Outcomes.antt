@@ -4,7 +4,7 @@ use Rattle.std.specs.Prelude.{IsErrAnd, MatchResult, Result, Ok, Err}
 use Rattle.sqlite_trees.specs.View.{IsQuiet, IsRolledBack}
 use Rattle.sqlite.specs.Held.{Held}
 use Rattle.desk_model.specs.Book.{Book}
-use Rattle.desk_brf.specs.Layout.{Layout}
+use Rattle.desk_brf.specs.PageLayout.{Layout}
 use Rattle.desk_ends.specs.declared.ends.Sink.{Ghosts as Sink}
 use Rattle.desk_ends.specs.declared.ends.Source.{Ghosts as Source}
 use Rattle.desk_session.specs.declared.session.Ended.{Ended}

@@ -7,7 +7,7 @@ use Rattle.sqlite_trees.specs.declared.store.Store.{Ghosts as Database}
 use Rattle.sqlite.specs.Held.{Held, state}
 use Rattle.sqlite.specs.State.{HasCleanDisk}
 use Rattle.desk_model.specs.Book.{Book}
-use Rattle.desk_brf.specs.Layout.{Layout}
+use Rattle.desk_brf.specs.PageLayout.{Layout}
 use Rattle.desk_brf.specs.Volume.{IsFirstEightDot, IsVolume}
 use Rattle.desk_brf.specs.Volumes.{volume_of}
 use Rattle.desk_brf.specs.declared.volume.ExportFault.{ExportFault}

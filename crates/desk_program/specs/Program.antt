@@ -3,12 +3,12 @@ use Rattle.std.specs.Prelude.{◌≡◌, ◌≢◌, ℕ, ◌⊎◌, List, [], Bo
 use Rattle.std.specs.Borrow.{Bor}
 use Rattle.sqlite_trees.specs.declared.store.Store.{Ghosts as Database}
 use Rattle.sqlite.specs.Held.{Held}
-use Rattle.desk_brf.specs.Layout.{IsLayout}
+use Rattle.desk_brf.specs.PageLayout.{IsLayout}
 use Rattle.desk_ends.specs.declared.ends.Sink.{Ghosts as Sink}
 use Rattle.desk_ends.specs.declared.ends.Source.{Ghosts as Source}
 use Rattle.desk_ends.specs.Sending.{Sends}
-use Rattle.desk_words.specs.Commands.{whole}
-use Rattle.desk_words.specs.Reading.{AskForHelp, NamesWithinLimits}
+use Rattle.desk_words.specs.Subcommands.{whole}
+use Rattle.desk_words.specs.Words.{AskForHelp, NamesWithinLimits}
 use Rattle.desk_words.specs.declared.action.Action.{Action}
 use Rattle.desk_words.specs.declared.action.Action.TheVariants.{New, Session, Export, Translate, Check}
 use Rattle.louis_table.specs.Meaning.{Meaning}

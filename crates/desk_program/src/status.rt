@@ -5,8 +5,8 @@ ghost use Rattle.desk_program.specs.Program.{CarriesOut, Does, IsFailure, Report
 ghost use Rattle.desk_program.specs.declared.fault.ProgramFault.TheVariants.{NoMemory};
 ghost use Rattle.desk_program.specs.declared.stop.Stop.TheVariants.{Refused};
 ghost use Rattle.desk_ends.specs.Sending.{Sends};
-ghost use Rattle.desk_words.specs.Commands.{whole};
-ghost use Rattle.desk_words.specs.Reading.{AreRefused};
+ghost use Rattle.desk_words.specs.Subcommands.{whole};
+ghost use Rattle.desk_words.specs.Words.{AreRefused};
 ghost use Rattle.std.specs.Prelude.{Err, List, Ok, [], codes, is_ok, ◌++◌, ◌∷◌, ◌≡◌, ◌≢◌, ◌≤◌, ◌⊎◌, ℕ};
 
 use super::books::{check_book, export_from, hold_session, make_book};

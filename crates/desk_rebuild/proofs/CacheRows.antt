@@ -213,18 +213,18 @@ module _ (tabs : List Tab) (paras : List Para) (tables : HeldTables) (items : Li
           }
 
       -- nothing below is damaged
-      lowest : (told : ℤ) → ((j : ℕ) (row : ParaCells) → i ≤ j → slice_get rows j ≡ Some row → told ≤ℤ row.para) → (length items ≤ i) ⊎ (told ≤ℤ pos (i + 1))
-          → (other : ℤ) → IsDamagedCache tabs paras caches other → told ≤ℤ other
-      lowest told above ends other damage =
-          elim (is_le told other) [
+      lowest : (reported : ℤ) → ((j : ℕ) (row : ParaCells) → i ≤ j → slice_get rows j ≡ Some row → reported ≤ℤ row.para) → (length items ≤ i) ⊎ (reported ≤ℤ pos (i + 1))
+          → (other : ℤ) → IsDamagedCache tabs paras caches other → reported ≤ℤ other
+      lowest reported above ends other damage =
+          elim (is_le reported other) [
             | inl low ↦ low
             | inr less ↦ elim damage [
               | inl (row, c, same, unsound) ↦
                   let at = place-of rows row (Contains-permutation _ _ row moved c) in
                   elim (cases_lt at.0 i) [
                     | inl front ↦ absurd (unsound (right-sound at.0 front row at.1 (none-after row.para (λ j later from is same_id.
-                        less (subst (λ z. told ≤ℤ z) (same_id ∙ same) (above j later from is))))))
-                    | inr behind ↦ subst (λ z. told ≤ℤ z) same (above at.0 row behind at.1)
+                        less (subst (λ z. reported ≤ℤ z) (same_id ∙ same) (above j later from is))))))
+                    | inr behind ↦ subst (λ z. reported ≤ℤ z) same (above at.0 row behind at.1)
                   ]
               | inr ((para, c, same), none) ↦
                   let p = its-place para c in

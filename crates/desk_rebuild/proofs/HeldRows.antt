@@ -19,8 +19,8 @@ use Rattle.std.proofs.lemmas.Option.{same_Some}
 abbrev pub plain : HeldParagraph → HeldParagraph
 plain held = record held { history = []; cells = []; marks = [] }
 
-abbrev pub told : HeldParagraph → HeldParagraph
-told held = record held { cells = []; marks = [] }
+abbrev pub reported : HeldParagraph → HeldParagraph
+reported held = record held { cells = []; marks = [] }
 
 -- ---- lists that agree in a part of each element
 
@@ -72,10 +72,10 @@ module _ (xs ys : List HeldParagraph) (same : map plain xs ≡ map plain ys) whe
 
 -- ---- histories and marks
 
-module _ (xs ys : List HeldParagraph) (same : map told xs ≡ map told ys) where
+module _ (xs ys : List HeldParagraph) (same : map reported xs ≡ map reported ys) where
   HasHistory-same : (entries : List NamedCorr) (row : Para) → HasHistory entries xs row → HasHistory entries ys row
   HasHistory-same entries row has =
-      let other = same-at told xs ys same (nat_abs row.id - 1) has.held has.at in
+      let other = same-at reported xs ys same (nat_abs row.id - 1) has.held has.at in
       let original : has.held.original ≡ other.0.original = ap (λ (k : HeldParagraph). k.original) other.2 in
       let history : has.held.history ≡ other.0.history = ap (λ (k : HeldParagraph). k.history) other.2 in
       let print : has.held.print ≡ other.0.print = ap (λ (k : HeldParagraph). k.print) other.2 in

@@ -20,7 +20,7 @@ use Rattle.desk_parts.specs.Rows.{Mark as MarkRow, Para}
 use Rattle.desk_model.specs.Shows.{mark_row_of}
 use Rattle.desk_model.proofs.Lists.Items.{map-set_same, set-cases, slice_get-there, take-more}
 use Rattle.desk_memory.proofs.Callers.{indexes-push_on, indexes-push_other}
-use Rattle.desk_rebuild.proofs.OrderedRows.{few-sound, tells as first-told, whole as none-damaged}
+use Rattle.desk_rebuild.proofs.OrderedRows.{few-sound, tells as first-reported, whole as none-damaged}
 use Rattle.desk_model.proofs.Lists.RowNumbers.{key-number, number-key, same_number}
 
 -- ---- rows beside paragraphs
@@ -89,7 +89,7 @@ module _ (paras : List Para) (items : List HeldParagraph) (of : AreOf paras item
     at-sound index row at before next s = mark-on rows row s
 
     pub tells : (id : ℤ) → IsFirstUnsound (mark_rule items) sorted id → IsFirstId (IsDamagedMark paras rows) id
-    tells id first = first-told (mark_rule items) rows sorted moved up (IsSoundMarkRow paras rows) number-of sound-at at-sound id first
+    tells id first = first-reported (mark_rule items) rows sorted moved up (IsSoundMarkRow paras rows) number-of sound-at at-sound id first
 
     -- nothing is damaged
     pub whole : (marks : List HeldMark) → AreHeldOf items sorted marks → IsWhole (IsDamagedMark paras rows)

@@ -1,4 +1,4 @@
--- Rows in the order of their ids: which of them has the next number, what is so of those before it, and what is told of them.
+-- Rows in the order of their ids: which of them has the next number, what is so of those before it, and what is reported of them.
 use Rattle.std.proofs.Common.{◌≡◌, ℕ, zero, suc, ◌+◌, ◌<◌, ◌≤◌, ℤ, pos, ◌+ℤ◌, ◌≤ℤ◌, ◌<ℤ◌, false, List, [], ◌∷◌, ◌++◌, map, filter, length, take, drop, Some, Ordering, Contains, is_lt, int_cmp, refl, sym, ap, subst, ◌∙◌, arith, inl, inr, slice_get, IsPermutation, IsSortedByKey, Less, length-append, length-take-le, take-append-drop, ap₂}
 use Rattle.std.proofs.Math.Seq.{take-length}
 use Rattle.std.specs.Cmp.{signed_Decides}
@@ -123,8 +123,8 @@ module _ {X : Type 0} (rule : RowRule X) (rows : List X) where
 
   pub first-unsound : (count : ℕ) (row : X) (id : ℤ) → AreSoundUpTo rule count rows → slice_get rows count ≡ Some row → rule.id row ≡ id
       → ¬ IsSoundAt rule count row → IsFirstUnsound rule rows id
-  first-unsound count row id sound at told unsound =
-      record { index = count; row = row; at = at; told = told; before = sound; unsound = unsound }
+  first-unsound count row id sound at reported unsound =
+      record { index = count; row = row; at = at; reported = reported; before = sound; unsound = unsound }
 
   sound-more : (count : ℕ) (row : X) → AreSoundUpTo rule count rows → slice_get rows count ≡ Some row → IsSoundAt rule count row → rule.HasUtf8Texts row
       → AreSoundUpTo rule (count + 1) rows
@@ -178,7 +178,7 @@ module _ {X : Type 0} (rule : RowRule X) (rows : List X) where
         IsNumber-key rule.id rows (length rows) (IsPermutation-same (map rule.id rows) (numbers 1 (length rows)) all-numbers)
         rule.most (few-sound (length rows) (omega arith) sound) row c
 
--- ---- what is told
+-- ---- what is reported
 
 -- rows, these in the order of their ids, and when one of them is sound: it has a number, and is sound at its index
 module _ {X : Type 0} (rule : RowRule X) (rows sorted : List X) (moved : IsPermutation rows sorted) (up : AreInOrder rule.id sorted) (IsSoundRow : X → Type 0)
@@ -251,13 +251,13 @@ module _ {X : Type 0} (rule : RowRule X) (rows sorted : List X) (moved : IsPermu
 
     pub tells : IsFirstId IsDamaged id
     tells = (
-      (first.row, Contains-permutation _ _ first.row back (Contains-there sorted first.index first.row first.at), first.told, unsound),
+      (first.row, Contains-permutation _ _ first.row back (Contains-there sorted first.index first.row first.at), first.reported, unsound),
       λ other damaged. elim (is_le id other) [
         | inl le ↦ le
         | inr more ↦
             let row = damaged.0 in
             let away : ¬ (rule.id first.row ≤ℤ rule.id row) =
-            λ h. more (subst (λ z. z ≤ℤ other) first.told (subst (λ z. rule.id first.row ≤ℤ z) damaged.2 h)) in
+            λ h. more (subst (λ z. z ≤ℤ other) first.reported (subst (λ z. rule.id first.row ≤ℤ z) damaged.2 h)) in
             let c = subst (λ xs. Contains xs row) parts (Contains-permutation _ _ row moved damaged.1) in
             absurd (elim (Contains-append_cases front (first.row ∷ later) row c) [
               | inr late ↦ away (above row late)

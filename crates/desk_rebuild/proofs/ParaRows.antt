@@ -27,7 +27,7 @@ use Rattle.desk_parts.specs.Rows.{Para, Tab}
 use Rattle.desk_model.specs.Shows.{tab_of}
 use Rattle.desk_model.proofs.Lists.Items.{Contains-there, drop-there, lookup-map, set-cases, slice_get-set_other, slice_get-set_same, slice_get-there}
 use Rattle.desk_model.proofs.Lists.Members.{Contains-map}
-use Rattle.desk_rebuild.proofs.OrderedRows.{from-place, held-more as one-more, tells as first-told, whole as none-damaged}
+use Rattle.desk_rebuild.proofs.OrderedRows.{from-place, held-more as one-more, tells as first-reported, whole as none-damaged}
 use Rattle.desk_model.proofs.Lists.RowNumbers.{Contains-from_map, pos_le, same_number}
 use Rattle.desk_model.proofs.Damage.SoundRows.{same_bytes}
 use Rattle.desk_model.proofs.Lists.Stable.{at_least, le_from}
@@ -252,7 +252,7 @@ module _ (tabs : List Tab) (tables : HeldTables) (are : AreTables tabs tables) w
         }
 
     pub tells : (id : ℤ) → IsFirstUnsound rule sorted id → IsFirstId (IsDamagedPara tabs rows) id
-    tells id first = first-told rule rows sorted moved up (IsSoundParaRow tabs rows) number-of sound-at at-sound id first
+    tells id first = first-reported rule rows sorted moved up (IsSoundParaRow tabs rows) number-of sound-at at-sound id first
 
     -- nothing is damaged
     pub whole : AreSoundUpTo rule (length sorted) sorted → IsWhole (IsDamagedPara tabs rows)

@@ -15,11 +15,11 @@ use Rattle.desk_model.specs.Damage.{IsSoundUndo, entry_of}
 use Rattle.desk_memory.specs.Histories.{IsNewestInForce, LeavePrint, TookFrom, entries_held, entry_held}
 use Rattle.desk_rebuild.specs.History.{AreSoundRows, IsCorrecting, IsNext, IsRead}
 use Rattle.desk_model.specs.Limits.{most_entries}
-use Rattle.desk_model.specs.Name.{IsProofreaderName}
+use Rattle.desk_model.specs.ValidNames.{IsProofreaderName}
 use Rattle.desk_model.specs.Print.{corrected_print}
 use Rattle.desk_parts.specs.Rows.{NamedCorr}
 use Rattle.desk_model.specs.Sound.{AreSoundEntries, IsSoundEntry}
-use Rattle.desk_model.specs.NormalForm.{IsUnbarred, is_barred}
+use Rattle.desk_model.specs.BookTexts.{IsUnbarred, is_barred}
 use Rattle.desk_memory.proofs.Callers.{TookFrom-correction, entry-correction, undone-print}
 use Rattle.desk_model.proofs.Books.HistoryLists.{corrected_print-corrects}
 use Rattle.desk_model.proofs.Lists.RowNumbers.{pos_le}

@@ -249,13 +249,13 @@ module _ (done rest : List Tab) (row : Tab) (tables : HeldTables) (text : HasUtf
 -- ---- all rows
 
 pub whole : (tabs sorted : List Tab) (tables : HeldTables) → IsPermutation tabs sorted → AreInOrder sorted → AreRead sorted sorted tables → IsWhole (IsDamagedTab tabs)
-whole tabs sorted tables moved up read id (other, moved', up', (index, row, at, told, bad)) =
+whole tabs sorted tables moved up read id (other, moved', up', (index, row, at, reported, bad)) =
     let same = sorted_once tabs sorted other moved up moved' up' in
     let there : slice_get sorted index ≡ Some row = ap (λ list. slice_get list index) same ∙ at in
     bad (subst (λ list. IsSoundTabRow list index row) same (read.sound index row (slice_get_within sorted index row there) there))
 
 pub tells : (tabs sorted : List Tab) (fault : RowsFault) → IsPermutation tabs sorted → AreInOrder sorted → TellsFirstUnsound sorted fault → TellsDamage (IsDamagedTab tabs) fault
-tells tabs sorted NoMemory moved up told = tt
+tells tabs sorted NoMemory moved up reported = tt
 tells tabs sorted (Damaged id) moved up (index, row, at, is, bad, before) = (
   (sorted, moved, up, (index, row, at, is, bad)),
   λ (other : ℤ) damaged. subst (λ z. z ≤ℤ other) (sym is) (no-earlier other damaged),
@@ -274,7 +274,7 @@ tells tabs sorted (Damaged id) moved up (index, row, at, is, bad, before) = (
 -- the row after those that are read
 pub first-unsound : (done rest : List Tab) (row : Tab) (tables : HeldTables) (fault : RowsFault) → AreRead (done ++ row ∷ rest) done tables
     → TellsUnsoundTab (done ++ row ∷ rest) (length done) row fault → TellsFirstUnsound (done ++ row ∷ rest) fault
-first-unsound done rest row tables NoMemory read told = tt
+first-unsound done rest row tables NoMemory read reported = tt
 first-unsound done rest row tables (Damaged id) read (is, bad) = (length done, row, here-at done rest row, is, bad, read.sound)
 
 -- stored rows in order
@@ -294,10 +294,10 @@ number-after n few =
     ap (λ (z : ℤ). to_z w64 (of_z w64 (z +ℤ pos 1))) (to_z_pos w64 n (omega (arith, few)))
     ∙ to_z-of_z w64 (pos (n + 1)) (omega (arith, few))
 
-pub untold : (all : List Tab) (index : ℕ) (row : Tab) (id : ℤ) → id ≡ pos (index + 1) → (fault : RowsFault) → TellsNoMeaning row.body id fault
+pub unreported : (all : List Tab) (index : ℕ) (row : Tab) (id : ℤ) → id ≡ pos (index + 1) → (fault : RowsFault) → TellsNoMeaning row.body id fault
     → TellsUnsoundTab all index row fault
-untold all index row id is (Damaged told) (same, none) = (same ∙ is, λ s. none s.meaning s.means)
-untold all index row id is NoMemory told = tt
+unreported all index row id is (Damaged reported) (same, none) = (same ∙ is, λ s. none s.meaning s.means)
+unreported all index row id is NoMemory reported = tt
 
 pub none-read : (all : List Tab) → AreRead all [] []
 unfolding IsStrictlySortedBy

@@ -25,7 +25,7 @@ use Rattle.desk_model.proofs.Damage.FirstDamage.{IsWholeBefore, before-cache, be
 use Rattle.desk_rebuild.proofs.FirstTables.{entries-damaged, first-fault}
 use Rattle.desk_rebuild.proofs.JoinedBook.{is_held, shown}
 use Rattle.desk_model.proofs.Lists.Items.{Contains-there}
-use Rattle.desk_rebuild.proofs.HeldRows.{AreOf-same, HaveMarks-same, histories-same, less-same, plain, same-at, told}
+use Rattle.desk_rebuild.proofs.HeldRows.{AreOf-same, HaveMarks-same, histories-same, less-same, plain, same-at, reported}
 use Rattle.desk_model.proofs.Lists.RowNumbers.{pos_le}
 
 -- ---- held paragraphs, while histories, marks and braille are read of them
@@ -89,7 +89,7 @@ module _ (parts : Parts) (within : IsWithin 0 most_version parts.version) where
       before_entries = before-entries rows before_para no_para
 
       pub entry-fault : (fault : PartsFault) → TellsDamageOf (table_of rows.entries) (IsDamagedEntries rows.paras (entries_in rows.entries)) fault → IsFaultOf rows fault
-      entry-fault fault told = first-fault rows (table_of rows.entries) before_entries fault (entries-damaged rows fault told)
+      entry-fault fault reported = first-fault rows (table_of rows.entries) before_entries fault (entries-damaged rows fault reported)
 
       module _ (no_entry : IsWhole (IsDamagedEntries rows.paras (entries_in rows.entries))) where
         before_mark : IsWholeBefore rows Mark
@@ -132,8 +132,8 @@ module _ (parts : Parts) (within : IsWithin 0 most_version parts.version) where
 
               have_histories : All (HasHistory (entries_in rows.entries) items) rows.paras
               have_histories =
-                  histories-same with_marks items (less-same without_cells told told (λ x. refl) with_marks items (sym same_cells)) (entries_in rows.entries) rows.paras
-                  (histories-same with_history with_marks (less-same without_marks told told (λ x. refl) with_history with_marks (sym same_marks)) (entries_in rows.entries) rows.paras histories)
+                  histories-same with_marks items (less-same without_cells reported reported (λ x. refl) with_marks items (sym same_cells)) (entries_in rows.entries) rows.paras
+                  (histories-same with_history with_marks (less-same without_marks reported reported (λ x. refl) with_history with_marks (sym same_marks)) (entries_in rows.entries) rows.paras histories)
 
               have_all_marks : HaveMarks marks items
               have_all_marks = HaveMarks-same marks with_marks items (sym same_cells) have_marks

@@ -12,7 +12,7 @@ use Rattle.desk_model.specs.Limits.{most_entries, most_print}
 use Rattle.desk_model.specs.Print.{corrected_print}
 use Rattle.desk_parts.specs.Rows.{NamedCorr}
 use Rattle.desk_model.specs.Sound.{IsSoundEntry}
-use Rattle.desk_model.specs.Characters.{AreCharacters}
+use Rattle.desk_model.specs.BookTexts.{AreCharacters}
 
 -- ---- one row
 

@@ -10,7 +10,7 @@ use Rattle.desk_parts.specs.declared.file_table.FileTable.TheVariants as tables
 use Rattle.desk_parts.specs.FileRows.{HasUtf8Texts, spelled}
 use Rattle.desk_parts.specs.Rows.{Mark as MarkRow}
 use Rattle.desk_model.specs.Shows.{mark_row_of}
-use Rattle.desk_model.specs.NormalForm.{IsUnbarred}
+use Rattle.desk_model.specs.BookTexts.{IsUnbarred}
 
 -- ---- a row, but for its id
 

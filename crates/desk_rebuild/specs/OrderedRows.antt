@@ -44,11 +44,11 @@ pub record IsFirstUnsound {X : Type 0} (rule : RowRule X) (rows : List X) (id : 
   pub index : ℕ
   pub row : X
   pub at : slice_get rows index ≡ Some row
-  pub told : rule.id row ≡ id
+  pub reported : rule.id row ≡ id
   pub before : AreSoundUpTo rule index rows
   pub unsound : ¬ IsSoundAt rule index row
 
--- the first row that isn't sound is told, or memory was refused
+-- the first row that isn't sound is reported, or memory was refused
 abbrev pub TellsUnsound : {X : Type 0} → RowRule X → List X → RowsFault → Type 0
 TellsUnsound rule rows (Damaged id) = IsFirstUnsound rule rows id
 TellsUnsound rule rows NoMemory = ⊤

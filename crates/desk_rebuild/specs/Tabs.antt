@@ -14,7 +14,7 @@ use Rattle.desk_parts.specs.declared.file_table.FileTable.TheVariants as file
 use Rattle.desk_parts.specs.FileRows.{HasUtf8Texts, spelled}
 use Rattle.desk_memory.specs.Held.{HeldTables}
 use Rattle.desk_model.specs.Limits.{most_tables}
-use Rattle.desk_model.specs.Name.{IsTableName}
+use Rattle.desk_model.specs.ValidNames.{IsTableName}
 use Rattle.desk_parts.specs.Rows.{StoredTab, Tab}
 use Rattle.desk_model.specs.Shows.{tab_of}
 
@@ -52,7 +52,7 @@ pub record MayCome (tables : HeldTables) (name : List ℕ) : Type 0 where
 
 -- the text has no meaning, which is reported at this number; or an allocation failed
 abbrev pub TellsNoMeaning : List ℕ → ℤ → RowsFault → Type 0
-TellsNoMeaning text id (Damaged told) = (told ≡ id) × ((meaning : Meaning) → ¬ Means text meaning)
+TellsNoMeaning text id (Damaged reported) = (reported ≡ id) × ((meaning : Meaning) → ¬ Means text meaning)
 TellsNoMeaning text id NoMemory = ⊤
 
 -- of rows in order the first that isn't sound is reported at its number, from 1; or an allocation

@@ -58,7 +58,7 @@ fn fault_at(fault: ReadFault, id: i64) -> RowsFault
 fn read_body(alloc: Global, body: &[u8], id: i64) -> Result<BoxedTable, RowsFault>
     ensures text { IfOk result (λ table. table.text ≡ body.now) }
     ensures means { IfOk result (λ table. Means body.now table.rules) }
-    ensures told { IfErr result (TellsNoMeaning body.now id) }
+    ensures reported { IfErr result (TellsNoMeaning body.now id) }
 {
     match BookTable::read(alloc, body) {
         Ok(table) => Ok(BoxedTable::new(alloc, table)?),
@@ -71,7 +71,7 @@ fn add(alloc: Global, tables: &mut Tables, row: TabRow) -> Result<(), RowsFault>
     requires few { length tables.old ≤ most_tables }
     ensures read { (done rest : List Tab) → AreRead (done ++ row ∷ rest) done tables.old
         → OnOk result (AreRead (done ++ row ∷ rest) (done ++ row ∷ []) tables.new) }
-    ensures told { (done rest : List Tab) → AreRead (done ++ row ∷ rest) done tables.old
+    ensures reported { (done rest : List Tab) → AreRead (done ++ row ∷ rest) done tables.old
         → IfErr result (TellsUnsoundTab (done ++ row ∷ rest) (length done) row) }
 {
     let id = tables.len() as i64 + 1;
@@ -86,7 +86,7 @@ fn add(alloc: Global, tables: &mut Tables, row: TabRow) -> Result<(), RowsFault>
 /// Reads the tables of rows that are in order.
 fn tables_of(alloc: Global, rows: Vec<StoredTab>) -> Result<Tables, RowsFault>
     ensures read { IfOk result (AreRead (rows_of rows.items) (rows_of rows.items)) }
-    ensures told { IfErr result (TellsFirstUnsound (rows_of rows.items)) }
+    ensures reported { IfErr result (TellsFirstUnsound (rows_of rows.items)) }
 {
     let mut tables = Tables::new(alloc);
     for stored in rows {

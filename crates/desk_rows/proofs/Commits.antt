@@ -11,18 +11,18 @@ use Rattle.sql_tables.specs.States.{IsUndone, ShowsAsBefore}
 use Rattle.desk_rows.specs.Commits.{Commits, Work}
 use Rattle.desk_rows.specs.Ending.{Ends}
 use Rattle.desk_rows.specs.Failing.{FailsToPut, Putting, at_commit, at_put}
-use Rattle.desk_rows.specs.Fault.{IsToldAs}
-use Rattle.desk_rows.specs.Turns.{with_transaction}
+use Rattle.desk_rows.specs.Fault.{IsReportedAs}
+use Rattle.desk_rows.specs.Statements.{with_transaction}
 use Rattle.desk_rows.specs.declared.fault.DatabaseFault.TheVariants.{Refused}
 use Rattle.desk_rows.proofs.Transactions.Ending.{fails_to_put, leaves_what_ran, shows_what_ran}
 use Rattle.desk_rows.proofs.Transactions.LostStores.{StopsLost, put_lost}
 
 module _ {S : Type 0} (g : Ghosts S) (old : Held S) where
   -- after a refusal a crash leaves nothing new
-  refused : (putting : Putting S) (new : State) (e : Error) → FailsToPut g putting (with_transaction old) new e → IsToldAs e Refused → Survives (state g old) new (λ _. ⊥)
-  refused putting new e (at_put last within stops left) told =
+  refused : (putting : Putting S) (new : State) (e : Error) → FailsToPut g putting (with_transaction old) new e → IsReportedAs e Refused → Survives (state g old) new (λ _. ⊥)
+  refused putting new e (at_put last within stops left) reported =
       survives_begin g old new _ (survives_then (state g (with_transaction old)) (state g last) new _ _ _ (λ _ db none. none) (λ _ db none. none) within left)
-  refused putting new e (at_commit last within puts left why) told = absurd (told why.0 why.1)
+  refused putting new e (at_commit last within puts left why) reported = absurd (reported why.0 why.1)
 
   module _ (last : Held S) (new : State) (kept : KeepsCommit (state g (with_transaction old)) (state g last)) where
     undone_since : IsUndone (state g last) new → IsUndone (state g old) new

@@ -9,12 +9,12 @@ use Rattle.sql_tables.specs.States.{IsCommitted, IsSettled, IsUndone, ShowsAsBef
 use Rattle.desk_parts.specs.declared.file_table.FileTable.{FileTable}
 use Rattle.desk_parts.specs.declared.put.Put.{Put}
 use Rattle.desk_rows.specs.Failing.{FailsToPut, Putting, after_tables, of_first_row, of_items}
-use Rattle.desk_rows.specs.Fault.{CountsLoss, IsToldAs}
+use Rattle.desk_rows.specs.Fault.{CountsLoss, IsReportedAs}
 use Rattle.desk_rows.specs.Making.{AreFreeIn, IsFileWithTables, IsMade, IsNew}
 use Rattle.desk_rows.specs.Making.{WritesWithTables, creation, making, new_layout, new_tables}
 use Rattle.desk_rows.specs.Puts.{IsFileWith, OfItems, Writes, statement}
 use Rattle.desk_rows.specs.States.{ShowsContents}
-use Rattle.desk_rows.specs.Turns.{AreRun, IsLeftBy, with_transaction}
+use Rattle.desk_rows.specs.Statements.{AreRun, IsLeftBy, with_transaction}
 use Rattle.desk_rows.specs.declared.fault.DatabaseFault.TheVariants.{Refused}
 
 -- ---- the work
@@ -79,7 +79,7 @@ pub record IsGivenUp {S : Type 0} (g : Ghosts S) (work : Work S) (old : Held S) 
   pub lost : CountsLoss (state g old) new e
   pub undone : IsUndone (state g old) new
   pub as_before : ShowsAsBefore (state g old) new
-  pub refused : IsToldAs e Refused → Survives (state g old) new (λ _. ⊥)
+  pub refused : IsReportedAs e Refused → Survives (state g old) new (λ _. ⊥)
 
 -- A transaction of its own with this work, from this connection to this state, is done or given up,
 -- as this result says.

@@ -10,5 +10,5 @@ use Rattle.sql_tables.specs.States.{IsCommitted, IsSettled, IsUndone}
 pub record Ends {V : Type 0} (ran result : Result V Error) (old new : State) : Type 0 where
   pub committed : OnOk result (IsOk ran × (new.now ≡ old.now) × IsCommitted new × IsSettled new)
   pub undone : OnOk ran (old.in_transaction ≡ true) → OnErr result (IsUndone old new)
-  pub told : IfErr result (λ e.
+  pub reported : IfErr result (λ e.
       ((ran ≡ Err e) × Survives old new (λ _. ⊥)) ⊎ (IsOk ran × FailsToCommit old new e))

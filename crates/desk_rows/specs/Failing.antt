@@ -8,7 +8,7 @@ use Rattle.sqlite.specs.Held.{Held, state}
 use Rattle.sqlite.specs.State.{State, Fails, Survives}
 use Rattle.desk_rows.specs.Making.{AreMade, MakesTables, creation, first_row}
 use Rattle.desk_rows.specs.Puts.{OfItems, PutsAll, StopsAt, statement}
-use Rattle.desk_rows.specs.Turns.{FailsWith, Ran, RunInTurn, Stops}
+use Rattle.desk_rows.specs.Statements.{FailsWith, Ran, RunInTurn, Stops}
 use Rattle.desk_parts.specs.declared.file_table.FileTable.{FileTable}
 use Rattle.desk_parts.specs.declared.file_table.FileTable.TheVariants as tables
 use Rattle.desk_parts.specs.declared.put.Put.{Put}

@@ -10,16 +10,16 @@ use Rattle.desk_rows.specs.declared.fault.DatabaseFault.TheVariants.{NoMemory, L
 
 -- no memory if an allocation failed in the store, lost if the store failed for another cause, and
 -- refused if the error isn't the store's
-abbrev pub IsToldAs : Error → DatabaseFault → Type 0
-IsToldAs e NoMemory = e ≡ store_error OutOfMemory
-IsToldAs e Lost = (cause : StoreError) × (cause ≢ OutOfMemory) × (e ≡ store_error cause)
-IsToldAs e Refused = (cause : StoreError) → e ≢ store_error cause
+abbrev pub IsReportedAs : Error → DatabaseFault → Type 0
+IsReportedAs e NoMemory = e ≡ store_error OutOfMemory
+IsReportedAs e Lost = (cause : StoreError) × (cause ≢ OutOfMemory) × (e ≡ store_error cause)
+IsReportedAs e Refused = (cause : StoreError) → e ≢ store_error cause
 
 -- Of a connection that was open: an error that is reported as lost comes with a failure that it
 -- counts, or what was put was too big to be stored.
 abbrev pub CountsLoss : State → State → Error → Type 0
 CountsLoss old new e =
-    IsTrue old.is_open → IsToldAs e Lost → MoreFaults old.faults new.faults ⊎ (e ≡ store_error Unstorable)
+    IsTrue old.is_open → IsReportedAs e Lost → MoreFaults old.faults new.faults ⊎ (e ≡ store_error Unstorable)
 
 -- What a crash left is always a database, so a store that crashed can fail to be opened again only
 -- if an allocation failed, or if it counts a failure.

@@ -4,7 +4,7 @@ pub mod Rows
 pub mod Layout
 pub mod Contents
 pub mod States
-pub mod Turns
+pub mod Statements
 pub mod Ending
 pub mod Puts
 pub mod Fault

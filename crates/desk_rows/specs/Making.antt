@@ -21,7 +21,7 @@ use Rattle.desk_rows.specs.Descriptions.{description_of, table_of}
 use Rattle.desk_rows.specs.Layout.{Layout}
 use Rattle.desk_rows.specs.Puts.{HasThem, put_into, puts_into, statement}
 use Rattle.desk_rows.specs.States.{IsFile, ShowsContents}
-use Rattle.desk_rows.specs.Turns.{FailsWith, Ran, RunInTurn, Statement}
+use Rattle.desk_rows.specs.Statements.{FailsWith, Ran, RunInTurn, Statement}
 
 -- the tables of a new file, in the order in which they are made
 abbrev pub new_tables : List FileTable
@@ -91,7 +91,7 @@ pub record IsCreated {V : Type 0} (result : Result V Error) (t : FileTable) (old
   pub ran : OnOk result (Ran (creation t) old new)
   pub inside : OnOk result (new.in_transaction ≡ true)
   pub kept : KeepsCommit old new
-  pub told : old.in_transaction ≡ true → IfErr result (FailsWith (creation t) old new)
+  pub reported : old.in_transaction ≡ true → IfErr result (FailsWith (creation t) old new)
 
 -- All of these were made so by their statements.
 abbrev pub AreMade : {S : Type 0} → Ghosts S → List FileTable → Held S → Held S → Type 0

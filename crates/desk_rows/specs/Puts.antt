@@ -21,7 +21,7 @@ use Rattle.desk_rows.specs.Descriptions.{description_of}
 use Rattle.desk_rows.specs.Layout.{Layout}
 use Rattle.desk_rows.specs.Rows.{columns_of, set_at}
 use Rattle.desk_rows.specs.States.{IsFile, IsUnder, ShowsContents}
-use Rattle.desk_rows.specs.Turns.{FailsWith, Ran, Statement, Stops}
+use Rattle.desk_rows.specs.Statements.{FailsWith, Ran, Statement, Stops}
 use Rattle.desk_rows.specs.declared.texts.TheConstants.{SET_FLAGS, SET_PLACE, SET_PRINT, SET_RESOLVED}
 use Rattle.desk_rows.specs.declared.texts.TheConstants.{SET_SPAN, SET_TABLE, SET_VERSION}
 
@@ -122,7 +122,7 @@ pub record IsPut {V : Type 0} (result : Result V Error) (it : RowPut) (old new :
   pub is_open : OnOk result (IsTrue old.is_open)
   pub inside : OnOk result (new.in_transaction ≡ true)
   pub kept : KeepsCommit old new
-  pub told : old.in_transaction ≡ true → IfErr result (NotPut it old new)
+  pub reported : old.in_transaction ≡ true → IfErr result (NotPut it old new)
 
 -- ---- puts in turn
 

@@ -16,7 +16,7 @@ use Rattle.sql_tables.specs.Rows.{Lists, columns_at, numbers_from}
 use Rattle.sql_tables.specs.States.{HasAnswer, HasTable}
 use Rattle.desk_rows.specs.Contents.{Contents}
 use Rattle.desk_rows.specs.Descriptions.{description_of, table_of, kind_at, shows_rowid, has_texts}
-use Rattle.desk_rows.specs.Fault.{IsToldAs}
+use Rattle.desk_rows.specs.Fault.{IsReportedAs}
 use Rattle.desk_rows.specs.Layout.{Layout}
 use Rattle.desk_rows.specs.Rows.{ShownOf, shown_columns, own, order}
 use Rattle.desk_rows.specs.States.{ShowsContents}
@@ -67,7 +67,7 @@ Begins at (Any ∷ kinds) row = Begins (suc at) kinds row
 -- first row, once what stands before its first text or bytes is of its kinds.
 pub data FailsAs {X : Type 0} (query : TableQuery) (written : X → Row) (Apart : List X → Type 0)
     (before after : State) (fault : DatabaseFault) : Type 0 where
-  failed : (e : Error) → FailsToQuery query.text [] before after e → IsToldAs e fault
+  failed : (e : Error) → FailsToQuery query.text [] before after e → IsReportedAs e fault
       → FailsAs query written Apart before after fault
   unreadable : (rows : List Row) → Shown query.text [] before after rows
       → ¬ AllByRecursion (HasKinds query.kinds) rows
@@ -109,7 +109,7 @@ pub record AnswersRows {V X : Type 0} (result : Result V DatabaseFault) (items :
   pub shows : (l : Layout) (c : Contents) → l.has t ≡ true → ShowsContents l c old
       → IfOk result (λ xs. IsPermutation (c.rows t) (map (λ x. own t (view x)) (items xs)))
   pub unchanged : OnOk result (IsUnchanged old new)
-  pub told : IfErr result (FailsAs (query_of t) (λ x. shown_columns t (view x)) Apart old new)
+  pub reported : IfErr result (FailsAs (query_of t) (λ x. shown_columns t (view x)) Apart old new)
   pub refused : IfErr result (λ fault. fault ≡ Refused → IsUnchanged old new)
   -- where its rows can be read and are apart, and the steps have no limit, it isn't refused
   pub cause : (tree : ℕ) → HasTable (table_of t tree) old → old.step_limit ≡ None

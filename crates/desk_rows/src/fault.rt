@@ -1,6 +1,6 @@
 //! Why a file can't be opened, or its rows can't be read.
 
-ghost use Rattle.desk_rows.specs.Fault.{IsToldAs};
+ghost use Rattle.desk_rows.specs.Fault.{IsReportedAs};
 
 use sqlite::{Error as Failure, ErrorCode};
 use std::alloc::AllocError;
@@ -24,7 +24,7 @@ pub enum DatabaseFault {
 impl DatabaseFault {
     /// How an error of the database is reported.
     pub fn of(error: Failure) -> DatabaseFault
-        ensures { IsToldAs error result }
+        ensures { IsReportedAs error result }
     {
         match error {
             Failure::SqliteFailure(ErrorCode::OutOfMemory) => DatabaseFault::NoMemory,

@@ -7,22 +7,22 @@
 //! keeps changes in it.
 #![tactic(auto)]
 
-mod crash;
 mod fault;
 pub mod laws;
 mod make;
 mod open;
 mod put_statements;
 mod read;
+mod reopening;
 mod row;
 mod table;
 mod texts;
 mod transaction;
 
-pub use crash::{reopen, reopen_after_write};
 pub use fault::DatabaseFault;
 pub use make::make_tables;
 pub use open::open_file;
 pub use read::{read_rows, read_tabs};
+pub use reopening::{reopen, reopen_after_write};
 pub use table::{has_table, table_name};
 pub use transaction::{write, write_with_tables};

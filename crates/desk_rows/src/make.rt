@@ -38,7 +38,7 @@ pub(crate) fn create_all<S: Alter>(
     ensures inside { HasCleanDisk (seen S.Store tx.new)
         → (seen S.Store tx.old).in_transaction ≡ true
         → OnOk result ((seen S.Store tx.new).in_transaction ≡ true) }
-    ensures told { HasCleanDisk (seen S.Store tx.new) → (seen S.Store tx.old).in_transaction ≡ true
+    ensures reported { HasCleanDisk (seen S.Store tx.new) → (seen S.Store tx.old).in_transaction ≡ true
         → IfErr result (StopsMaking S.Store tables.now tx.old.conn.now
         (seen S.Store tx.new)) }
     ensures kept { HasCleanDisk (seen S.Store tx.new)
@@ -61,7 +61,7 @@ fn make_all<S: Alter>(tx: &mut Transaction<'_, S>) -> Result<(), Error>
     ensures inside { HasCleanDisk (seen S.Store tx.new)
         → (seen S.Store tx.old).in_transaction ≡ true
         → OnOk result ((seen S.Store tx.new).in_transaction ≡ true) }
-    ensures told { HasCleanDisk (seen S.Store tx.new) → (seen S.Store tx.old).in_transaction ≡ true
+    ensures reported { HasCleanDisk (seen S.Store tx.new) → (seen S.Store tx.old).in_transaction ≡ true
         → IfErr result ((after_tables S.Store new_tables (of_first_row S.Store)).stops tx.old.conn.now
         (seen S.Store tx.new)) }
     ensures kept { HasCleanDisk (seen S.Store tx.new)

@@ -7,7 +7,7 @@ ghost use Rattle.sqlite.specs.State.{HasCleanDisk, IsLive, Opens};
 ghost use Rattle.sqlite.specs.Steps.{FailsToOpen, IsFresh};
 ghost use Rattle.sqlite.specs.declared.error.Error.{Error as Failure};
 ghost use Rattle.sqlite_disk.specs.Disk.{MoreFaults};
-ghost use Rattle.desk_rows.specs.Fault.{IsToldAs};
+ghost use Rattle.desk_rows.specs.Fault.{IsReportedAs};
 ghost use Rattle.desk_rows.specs.Contents.{Contents};
 ghost use Rattle.desk_rows.specs.Layout.{Layout};
 ghost use Rattle.desk_rows.specs.States.{IsFile, ShowsContents};
@@ -39,10 +39,10 @@ pub fn open_file<S: Alter + Drop>(
     ensures crash { IfOk result (λ conn. HasCleanDisk (state S.Store conn)
         → Leaves (λ db. db ≡ (S.Store.view store).trees) (state S.Store conn)) }
     // It is what the database answers to such trees.
-    ensures told { IfErr result (λ e. IsClean (S.Store.view e.1)
+    ensures reported { IfErr result (λ e. IsClean (S.Store.view e.1)
         → (error : Failure)
         × FailsToOpen (S.Store.view store).trees (MoreFaults (S.Store.faults store)
-        (S.Store.faults e.1)) error × IsToldAs error e.0) }
+        (S.Store.faults e.1)) error × IsReportedAs error e.0) }
     // What is a file of any layout is never refused.
     ensures refused { IfErr result (λ e. IsClean (S.Store.view e.1) → e.0 ≡ DatabaseFault.Refused
         → (l : Layout) (c : Contents) → ¬ IsFile l c (S.Store.view store).trees) }

@@ -17,7 +17,7 @@ ghost use Rattle.sql_tables.specs.Kinds.{HasKinds};
 ghost use Rattle.desk_rows.specs.TableQuery.{AnswersRows, AnyRows, BeginWith, given, query_of};
 ghost use Rattle.desk_parts.specs.declared.file_table.FileTable.{FileTable};
 ghost use Rattle.desk_parts.specs.FileRows.{HasUtf8Texts};
-ghost use Rattle.desk_rows.specs.Fault.{IsToldAs};
+ghost use Rattle.desk_rows.specs.Fault.{IsReportedAs};
 ghost use Rattle.desk_rows.specs.Rows.{own, shown_columns};
 ghost use Rattle.desk_rows.specs.Whole.{DifferBy};
 
@@ -36,7 +36,7 @@ fn ask<S: Alter>(conn: &mut Connection<S>, sql: &str) -> Result<Vec<Row>, Databa
     ensures failed { HasCleanDisk (state S.Store conn.new)
         → IfErr result (λ fault. (e : Failure)
         × FailsToQuery sql.now [] (state S.Store conn.old) (state S.Store conn.new) e
-        × IsToldAs e fault) }
+        × IsReportedAs e fault) }
     ensures mode { conn.old.in_transaction ≡ false → conn.new.in_transaction ≡ false }
     ensures survives { Survives (state S.Store conn.old) (state S.Store conn.new)
         (CommitsShowing sql.now [] (state S.Store conn.old)) }

@@ -42,7 +42,7 @@ fn text(alloc: Global, row: &Row, at: usize) -> Result<String, DatabaseFault>
     ensures reads { IfOk result (λ text. column row.now at ≡ Text (string_bytes text)) }
     ensures kind { IfOk result (λ _. IsOfKind Kind.Text (column row.now at)) }
     ensures utf8 { IfOk result (λ text. IsUtf8 (string_bytes text)) }
-    ensures told { IfErr result (IsValueFault (IsOfKind Kind.Text (column row.now at))) }
+    ensures reported { IfErr result (IsValueFault (IsOfKind Kind.Text (column row.now at))) }
 {
     let Ok(ValueRef::Text(bytes)) = row.get_ref(at) else {
         return Err(DatabaseFault::Refused);
@@ -55,7 +55,7 @@ fn text(alloc: Global, row: &Row, at: usize) -> Result<String, DatabaseFault>
 fn bytes(alloc: Global, row: &Row, at: usize) -> Result<Vec<u8>, DatabaseFault>
     ensures reads { IfOk result (λ bytes. column row.now at ≡ Blob bytes.items) }
     ensures kind { IfOk result (λ _. IsOfKind Kind.Blob (column row.now at)) }
-    ensures told { IfErr result (IsValueFault (IsOfKind Kind.Blob (column row.now at))) }
+    ensures reported { IfErr result (IsValueFault (IsOfKind Kind.Blob (column row.now at))) }
 {
     let Ok(ValueRef::Blob(bytes)) = row.get_ref(at) else {
         return Err(DatabaseFault::Refused);

@@ -86,7 +86,7 @@ fn make_and_put<'a, S: Alter, I: Iterator<Item = Put<'a>> + Drop>(
     ensures inside { HasCleanDisk (seen S.Store tx.new)
         → (seen S.Store tx.old).in_transaction ≡ true
         → OnOk result ((seen S.Store tx.new).in_transaction ≡ true) }
-    ensures told { HasCleanDisk (seen S.Store tx.new) → (seen S.Store tx.old).in_transaction ≡ true
+    ensures reported { HasCleanDisk (seen S.Store tx.new) → (seen S.Store tx.old).in_transaction ≡ true
         → IfErr result ((after_tables S.Store tables.now
         (of_items S.Store I.next_gives puts)).stops tx.old.conn.now (seen S.Store tx.new)) }
     ensures kept { HasCleanDisk (seen S.Store tx.new)

@@ -6,7 +6,7 @@ use Rattle.desk_ends.specs.Lines.{IsLine, kept_line, without_ending}
 use Rattle.desk_ends.proofs.ManyLines.{lines-then}
 use Rattle.desk_ends.proofs.OneLine.{kept_line-none, long-line, one-line}
 use Rattle.desk_line.specs.Lines.{IsShort}
-use Rattle.desk_session.specs.Reading.{AreFed}
+use Rattle.desk_session.specs.ReadingSteps.{AreFed}
 
 short-parts : (these those : List (List ℕ)) → AllByRecursion IsShort (these ++ those) → AllByRecursion IsShort these × AllByRecursion IsShort those
 short-parts [] those all = (tt, all)

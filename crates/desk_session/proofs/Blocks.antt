@@ -10,7 +10,7 @@ use Rattle.desk_ends.proofs.OneLine.{ends-append, fed-ends}
 use Rattle.desk_ends.proofs.UsedInput.{UsesInput-none, UsesInput-then, no-parts}
 use Rattle.desk_session.specs.declared.no_request.NoRequest.{NoRequest}
 use Rattle.desk_session.specs.declared.no_request.NoRequest.TheVariants.{Syntax, NoMemory}
-use Rattle.desk_session.specs.Reading.{AreFed, BlockEnds, HoldsText, ReadsBlock}
+use Rattle.desk_session.specs.ReadingSteps.{AreFed, BlockEnds, HoldsText, ReadsBlock}
 use Rattle.desk_session.proofs.BlockLines.{long-before}
 
 -- ---- a text with a line more

@@ -10,7 +10,7 @@ use Rattle.sqlite.specs.State.{IsLive, State}
 use Rattle.sqlite.specs.State.{Opens as IsOpenedAnew}
 use Rattle.sql_tables.specs.States.{IsSettled, Leaves}
 use Rattle.desk_model.specs.Book.{Book}
-use Rattle.desk_store.specs.Books.{HasNewTables, LeavesBook, MayServe}
+use Rattle.desk_store.specs.Keeping.{HasNewTables, LeavesBook, MayServe}
 use Rattle.desk_store.proofs.StoppedOpenings.{still_shown}
 use Rattle.desk_store.proofs.Reopening.{finds_such, holds_new, keeps, second_format}
 use Rattle.desk_rows.specs.Contents.{Contents}
@@ -18,7 +18,8 @@ use Rattle.desk_store.specs.Formats.{named}
 use Rattle.desk_store.specs.Found.{HasNone}
 use Rattle.desk_rows.specs.Layout.{Layout}
 use Rattle.desk_rows.specs.Making.{new_layout}
-use Rattle.desk_store.specs.Opened.{FindsBook, HoldsEither, OpensBook, Stands, StopsOpening, with_missing_tables}
+use Rattle.desk_store.specs.Completing.{with_missing_tables}
+use Rattle.desk_store.specs.Opened.{FindsBook, HoldsEither, OpensBook, Stands, StopsOpening}
 use Rattle.desk_store.specs.Reopened.{IsKeptThere}
 use Rattle.desk_store.specs.declared.fault.OpenFault.{OpenFault}
 use Rattle.desk_rows.specs.States.{IsFile, ShowsContents}

@@ -10,10 +10,10 @@ use Rattle.desk_parts.specs.Puts.{LendsFirst, put_of}
 use Rattle.desk_rows.specs.Failing.{FailsToPut, at_commit, at_put, of_items}
 use Rattle.desk_rows.specs.Layout.{Layout}
 use Rattle.desk_rows.specs.Puts.{statement}
-use Rattle.desk_rows.specs.Turns.{with_transaction}
-use Rattle.desk_store.specs.Books.{MayServe}
+use Rattle.desk_rows.specs.Statements.{with_transaction}
+use Rattle.desk_store.specs.Keeping.{MayServe}
 use Rattle.desk_session.specs.Service.{LosesCommand}
-use Rattle.desk_session.specs.Turns.{LosesChange}
+use Rattle.desk_session.specs.TurnSteps.{LosesChange}
 
 -- a command whose change isn't kept, where the file showed the book so far, is lost for this cause
 pub loses-command : {S : Type 0} (g : Ghosts S) (start book : Book) (old : State) (before : Held S) (new : State)

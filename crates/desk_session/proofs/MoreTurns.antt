@@ -6,7 +6,7 @@ use Rattle.desk_model.specs.After.{After}
 use Rattle.desk_model.specs.Book.{Book}
 use Rattle.desk_line.specs.declared.answer.Answer.{Answer}
 use Rattle.desk_line.specs.declared.answer.Answer.TheVariants as answers
-use Rattle.desk_line.specs.Answers.{IsAnswered, accepted, asked, lost, no_request, refused, unplanned, unread}
+use Rattle.desk_line.specs.Answered.{IsAnswered, accepted, asked, lost, no_request, refused, unplanned, unread}
 use Rattle.desk_session.specs.Session.{EndsLost, GivenCommand, GivesCommands, IsHeld, IsSession, MayGoOn, Turn, TurnsFrom, commands_of}
 use Rattle.desk_session.proofs.Sessions.{IsSession-held}
 

@@ -17,16 +17,16 @@ use Rattle.desk_ends.proofs.OneLine.{ends-append, ends-some, fed-ends, fed-first
 use Rattle.desk_ends.proofs.UsedInput.{UsesInput-then, no-parts}
 use Rattle.desk_session.specs.declared.no_request.NoRequest.{NoRequest}
 use Rattle.desk_session.specs.declared.no_request.NoRequest.TheVariants.{Syntax, NoMemory}
-use Rattle.desk_line.specs.declared.head.Head.{Head}
+use Rattle.desk_line.specs.declared.read.Head.{Head}
 use Rattle.desk_line.specs.declared.request.Request.{Request}
-use Rattle.desk_line.specs.Head.{Says}
+use Rattle.desk_line.specs.HeadLine.{Says}
 use Rattle.desk_line.specs.Lines.{IsShort, after_first_line}
 use Rattle.desk_line.specs.Request.{HasHead, IsLast, IsNoRequest, IsWhole, Reads, Takes, block_lines, said, unsaid}
 use Rattle.desk_line.proofs.CutLaws.{none-whole}
 use Rattle.desk_line.proofs.HeadLaws.{head-found}
 use Rattle.desk_line.proofs.HeadLines.{head-of-long}
 use Rattle.desk_line.proofs.RequestLaws.{asks-for-memory, takes-none, unsaid-none}
-use Rattle.desk_session.specs.Reading.{AreFed, AreLines, BeginsWithNone, HoldsText, ReadsBlock, ReadsRequest}
+use Rattle.desk_session.specs.ReadingSteps.{AreFed, AreLines, BeginsWithNone, HoldsText, ReadsBlock, ReadsRequest}
 use Rattle.desk_session.specs.Requests.{GiveNoRequest, IsNext}
 use Rattle.desk_session.proofs.Blocks.{block-some}
 use Rattle.desk_session.proofs.BlockLines.{not-short}

@@ -5,7 +5,7 @@ use Rattle.desk_ends.proofs.UsedInput.{no-parts}
 use Rattle.desk_line.specs.Request.{IsLast, IsRequestBefore, IsWhole, Requests, WholeRequests, last, whole}
 use Rattle.desk_line.proofs.CutLaws.{same-request, whole-some}
 use Rattle.desk_line.proofs.RequestLaws.{some-lines}
-use Rattle.desk_session.specs.Reading.{BeginsWithNone}
+use Rattle.desk_session.specs.ReadingSteps.{BeginsWithNone}
 use Rattle.desk_session.specs.Requests.{FirstRequests, IsNext}
 
 -- the bytes are these requests, of which only the end of the input cuts the last one

@@ -24,15 +24,15 @@ use Rattle.desk_line.specs.declared.request.Request.{Request}
 use Rattle.desk_line.specs.declared.request.Request.TheVariants.{Do}
 use Rattle.desk_line.specs.Request.{WholeRequests}
 use Rattle.desk_line.proofs.RequestLaws.{one-request}
-use Rattle.desk_store.specs.Books.{HoldsBook, MayServe, ShowsBook}
+use Rattle.desk_store.specs.Keeping.{HoldsBook, MayServe, ShowsBook}
 use Rattle.desk_rows.specs.Layout.{Layout}
 use Rattle.desk_session.specs.declared.session.Ended.{Ended}
 use Rattle.desk_session.specs.declared.session.Ended.TheVariants as ended
-use Rattle.desk_session.specs.Reading.{ReadsRequest}
+use Rattle.desk_session.specs.ReadingSteps.{ReadsRequest}
 use Rattle.desk_session.specs.Requests.{FirstRequests}
 use Rattle.desk_session.specs.Service.{AreRequests, EndsAs, EndsFlushed, GoesOut, HoldsGiven, IsHonest, IsLeft, IsWritten, MayLack, Serves, SessionEnds, ends_of}
 use Rattle.desk_session.specs.Session.{EndsLost, GivenCommand, GivesCommands, IsCommand, IsSession, MayGoOn, Turn, commands_of}
-use Rattle.desk_session.specs.Turns.{LeavesLost, LeftBy, SendsReply, TakesTurn}
+use Rattle.desk_session.specs.TurnSteps.{LeavesLost, LeftBy, SendsReply, TakesTurn}
 use Rattle.desk_session.proofs.MoreTurns.{AllTaken, TurnsFrom-more, after-given, ends-held, ends-lost, gives-some, goes-held, goes-more, lost-stays, requests-more, requests_of, taken-more}
 use Rattle.desk_session.proofs.RequestCuts.{CutInto, CutInto-all, CutInto-first, CutInto-more, CutInto-whole, next-some}
 
@@ -306,14 +306,14 @@ module _ (start book : Book) (over : SessionEnds) (c : Option (List ℕ)) (input
     gave-lost : answer ≡ answers.Lost → GivesCommands turn answers.Lost gave.0
     gave-lost is = subst (λ (one : Answer). GivesCommands turn one gave.0) is gave.1
 
-    all-told : (whole : Bool) → ok ≡ whole → (AllTaken turns × IsFlushed x passed) ⊎ over.WritesFail
-    all-told true is = inl (taken-more turn so_far.turns so_far.goes (sends.all is).0, (sends.all is).1)
-    all-told false is = inr (sends.fails is)
+    all-reported : (whole : Bool) → ok ≡ whole → (AllTaken turns × IsFlushed x passed) ⊎ over.WritesFail
+    all-reported true is = inl (taken-more turn so_far.turns so_far.goes (sends.all is).0, (sends.all is).1)
+    all-reported false is = inr (sends.fails is)
 
     -- a command was lost
     pub Serves-lost : answer ≡ answers.Lost → Serves start next ended.Lost after
     Serves-lost is =
-        ended-after ended.Lost first (ends-lost turn so_far.turns is) tt (all-told ok refl)
+        ended-after ended.Lost first (ends-lost turn so_far.turns is) tt (all-reported ok refl)
         (λ clean l may.
         let lost = lost-by is l (took.left clean l (so_far.kept (took.clean clean) l may)) in
         let one = gave-lost is in

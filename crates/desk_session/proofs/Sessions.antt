@@ -7,12 +7,12 @@ use Rattle.desk_model.specs.declared.refusal.Refusal.TheVariants.{Moved}
 use Rattle.desk_model.specs.After.{After}
 use Rattle.desk_model.specs.Book.{Book}
 use Rattle.desk_model.specs.Refusals.{IsAccepted}
-use Rattle.desk_model.specs.Step.{Makes}
+use Rattle.desk_model.specs.NextBook.{Makes}
 use Rattle.desk_model.proofs.Callers.{holds-expected}
 use Rattle.desk_line.specs.declared.answer.Answer.{Answer}
 use Rattle.desk_line.specs.declared.answer.Answer.TheVariants as answers
 use Rattle.desk_line.specs.declared.request.Request.TheVariants.{Do}
-use Rattle.desk_line.specs.Answers.{IsAnswered, accepted, refused, asked, no_request, unread, unplanned, lost}
+use Rattle.desk_line.specs.Answered.{IsAnswered, accepted, refused, asked, no_request, unread, unplanned, lost}
 use Rattle.desk_line.specs.Request.{Reads}
 use Rattle.desk_line.proofs.RequestLaws.{one-request}
 use Rattle.desk_session.specs.Session.{AllButOne, EndsLost, GivenCommand, GivesCommands, IsCommand, IsGivenBy, IsHeld, IsSession, MayGoOn, Turn, commands_of, done as given_done, lost as given_lost}

@@ -20,14 +20,14 @@ use Rattle.desk_line.specs.declared.answer.Answer.{Answer}
 use Rattle.desk_line.specs.declared.answer.Answer.TheVariants as answers
 use Rattle.desk_line.specs.declared.request.Query.{Query}
 use Rattle.desk_line.specs.declared.request.Request.TheVariants.{Ask, Do}
-use Rattle.desk_line.specs.Answers.{IsAnswered, accepted, asked, lost, no_request, refused, unplanned, unread}
-use Rattle.desk_line.specs.Reply.{IsReplied}
+use Rattle.desk_line.specs.Answered.{IsAnswered, accepted, asked, lost, no_request, refused, unplanned, unread}
+use Rattle.desk_line.specs.ReplyLines.{IsReplied}
 use Rattle.desk_line.specs.Request.{AsksForMemory, IsNoRequest, Reads}
-use Rattle.desk_store.specs.Books.{LeavesBook, LeavesEither, MayKeep, MayServe, ShowsBook}
+use Rattle.desk_store.specs.Keeping.{LeavesBook, LeavesEither, MayKeep, MayServe, ShowsBook}
 use Rattle.desk_rows.specs.Layout.{Layout}
 use Rattle.desk_rows.proofs.Transactions.Committing.{shows_on}
 use Rattle.desk_session.specs.Service.{IsPart}
-use Rattle.desk_session.specs.Turns.{SendsReply, TakesTurn}
+use Rattle.desk_session.specs.TurnSteps.{SendsReply, TakesTurn}
 
 -- ---- what leaves the file as it was
 

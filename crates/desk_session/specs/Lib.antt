@@ -1,6 +1,6 @@
 pub mod Session
 pub mod Requests
-pub mod Reading
+pub mod ReadingSteps
 pub mod Service
-pub mod Turns
+pub mod TurnSteps
 pub mod Reopened

@@ -15,11 +15,11 @@ use Rattle.desk_ends.specs.declared.ends.Sink.{Ghosts as Sink}
 use Rattle.desk_ends.specs.declared.ends.Source.{Ghosts as Source}
 use Rattle.desk_ends.specs.Ends.{IsFlushed}
 use Rattle.desk_ends.specs.Limits.{most_input}
-use Rattle.desk_line.specs.Reply.{IsReply}
+use Rattle.desk_line.specs.ReplyLines.{IsReply}
 use Rattle.desk_line.specs.Request.{Requests, WholeRequests}
-use Rattle.desk_store.specs.Books.{HoldsBook, MayServe, ShowsBook}
+use Rattle.desk_store.specs.Keeping.{HoldsBook, MayServe, ShowsBook}
 use Rattle.desk_rows.specs.Layout.{Layout}
-use Rattle.desk_rows.specs.Turns.{FailsWith, RunInTurn, Statement, with_transaction}
+use Rattle.desk_rows.specs.Statements.{FailsWith, RunInTurn, Statement, with_transaction}
 use Rattle.desk_store.specs.Opened.{Stands}
 use Rattle.desk_session.specs.declared.session.Ended.{Ended}
 use Rattle.desk_session.specs.declared.session.Ended.TheVariants.{Done, Input, Output, Lost}

@@ -8,7 +8,7 @@ use Rattle.desk_model.specs.Book.{Book}
 use Rattle.desk_line.specs.declared.answer.Answer.{Answer}
 use Rattle.desk_line.specs.declared.answer.Answer.TheVariants.{Done, Refused, Asked, Syntax, NoMemory, Lost}
 use Rattle.desk_line.specs.declared.request.Request.TheVariants.{Do}
-use Rattle.desk_line.specs.Answers.{IsAnswered}
+use Rattle.desk_line.specs.Answered.{IsAnswered}
 use Rattle.desk_line.specs.Request.{Reads}
 
 -- a request that was read, what was answered to it, and whether the writer has taken the whole

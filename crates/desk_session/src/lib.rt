@@ -18,6 +18,5 @@ pub mod laws;
 mod no_request;
 mod reader;
 mod session;
-mod turn;
 
 pub use session::{Ended, run, serve};

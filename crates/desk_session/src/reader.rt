@@ -1,6 +1,6 @@
 //! The requests of an input.
 ghost use Rattle.desk_ends.specs.Lines.{IsLine, kept_line};
-ghost use Rattle.desk_session.specs.Reading.{AreFed, HoldsText, ReadsBlock, ReadsRequest};
+ghost use Rattle.desk_session.specs.ReadingSteps.{AreFed, HoldsText, ReadsBlock, ReadsRequest};
 ghost use Rattle.std.specs.Prelude.{Err, IfErr, List, None, OnOk, ◌++◌, ◌≡◌, ℕ};
 
 use super::no_request::NoRequest;

@@ -21,7 +21,7 @@ use Rattle.desk_store.specs.Formats.{Format, IsOfFormat, named, presence, unname
 use Rattle.desk_store.specs.Found.{AreCellsIn, AreEntriesIn, CanAllAnswer, CanAnswer, IsReadAs}
 use Rattle.desk_rows.specs.Layout.{Layout}
 use Rattle.desk_store.specs.Opening.{CanAllBeRead, Stays}
-use Rattle.desk_store.specs.Reading.{AreEntriesReadable, ShowsReadable}
+use Rattle.desk_store.specs.ReadingSteps.{AreEntriesReadable, ShowsReadable}
 use Rattle.desk_rows.specs.Rows.{ShownOf, shown_columns}
 use Rattle.desk_rows.specs.Tables.{is_there}
 use Rattle.desk_store.proofs.Opened.{shows_still}

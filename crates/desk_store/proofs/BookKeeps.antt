@@ -14,7 +14,7 @@ use Rattle.desk_parts.specs.Puts.{RowPut, PutRow, SetColumns, table_put}
 use Rattle.desk_parts.specs.FileRows.{FileRows, table_of}
 use Rattle.desk_model.specs.Shows.{Shows as RowsShow}
 use Rattle.desk_store.specs.BookFile.{rows_of}
-use Rattle.desk_store.specs.Books.{HasNewTables, HoldsBook, HoldsKept, LeavesBook, LeavesEither, MayKeep, MayServe, ShowsBook}
+use Rattle.desk_store.specs.Keeping.{HasNewTables, HoldsBook, HoldsKept, LeavesBook, LeavesEither, MayKeep, MayServe, ShowsBook}
 use Rattle.desk_rows.specs.Contents.{Contents}
 use Rattle.desk_rows.specs.Layout.{Layout}
 use Rattle.desk_rows.specs.Making.{is_among, new_tables}

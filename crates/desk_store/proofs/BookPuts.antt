@@ -16,7 +16,7 @@ use Rattle.desk_rows.specs.Layout.{Layout}
 use Rattle.desk_rows.specs.Making.{IsFileWithTables, WritesWithTables, creation}
 use Rattle.desk_rows.specs.Puts.{IsFileWith, OfItems, Writes, put_into, puts_into, statement}
 use Rattle.desk_rows.specs.Rows.{set_at}
-use Rattle.desk_rows.specs.Turns.{AreRun, IsLeftBy}
+use Rattle.desk_rows.specs.Statements.{AreRun, IsLeftBy}
 use Rattle.desk_rows.proofs.RowPuts.LentPuts.{all_lent}
 
 -- what holds of what is put, for an iterator that lends the first of what is left

@@ -11,7 +11,7 @@ use Rattle.desk_parts.specs.Rows.{ParaCells}
 use Rattle.desk_model.specs.SameRows.{AreSameRows, AreSameCaches, AreSameEntries}
 use Rattle.desk_model.proofs.Callers.{new-shown}
 use Rattle.desk_store.specs.BookFile.{rows_of}
-use Rattle.desk_store.specs.Books.{HasNewTables, HoldsBook, ShowsBook}
+use Rattle.desk_store.specs.Keeping.{HasNewTables, HoldsBook, ShowsBook}
 use Rattle.desk_rows.specs.Contents.{Contents}
 use Rattle.desk_store.specs.Formats.{Format, IsOfFormat, IsPresent, Presence, named, needed, presence, unnamed}
 use Rattle.desk_rows.specs.Layout.{Layout}
@@ -19,8 +19,8 @@ use Rattle.desk_rows.specs.Making.{IsMade, IsNew, is_among, new_layout}
 use Rattle.desk_rows.proofs.Schema.MadeTables.{first_contents}
 use Rattle.desk_store.proofs.Exact.{stays_there}
 use Rattle.desk_store.proofs.Opened.{in_both}
-use Rattle.desk_store.specs.Filling.{which_lacked}
-use Rattle.desk_store.specs.Opened.{lacking, missing_tables, with_missing_tables}
+use Rattle.desk_store.specs.FillingSteps.{which_lacked}
+use Rattle.desk_store.specs.Completing.{lacking, missing_tables, with_missing_tables}
 use Rattle.desk_rows.specs.States.{ShowsContents}
 use Rattle.desk_rows.specs.Tables.{is_there}
 

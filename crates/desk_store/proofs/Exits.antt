@@ -4,9 +4,9 @@ use Rattle.std.specs.Prelude.{MatchResult}
 
 module _ {T E : Type 0} where
   -- the error that is returned at a `?`
-  pub told_is : (r : Result T E) {e : E} → IsErrAnd r (λ told. told ≡ e) → r ≡ Err e
-  told_is (Ok x) failed = absurd failed
-  told_is (Err told) same = ap (λ y. Err y) same
+  pub reported_is : (r : Result T E) {e : E} → IsErrAnd r (λ reported. reported ≡ e) → r ≡ Err e
+  reported_is (Ok x) failed = absurd failed
+  reported_is (Err reported) same = ap (λ y. Err y) same
 
   -- what holds by the test for a value or an error
   pub at_done : (r : Result T E) (P : Type 0) (Q : E → Type 0) → MatchResult r (λ _. P) Q → is_ok r ≡ true → P

@@ -107,16 +107,16 @@ module _ (l : Layout) (c : Contents) where
       let same = one_damage (rows_of l c) table other id n at.first too.first in ap₂ Damaged same.0 same.1
 
   pub one_refusal : (fault other : OpenFault) → IsRefusal fault → IsRefusal other → TellsOf l c fault → TellsOf l c other → fault ≡ other
-  one_refusal Lost other is is' told told' = absurd is
-  one_refusal NoMemory other is is' told told' = absurd is
-  one_refusal fault Lost is is' told told' = absurd is'
-  one_refusal fault NoMemory is is' told told' = absurd is'
-  one_refusal NotABook NotABook is is' told told' = refl
-  one_refusal NotABook (Damaged other n) is is' told told' = absurd (lacks_damaged other n told told')
-  one_refusal NotABook NewerFormat is is' told told' = absurd (lacks_newer told told')
-  one_refusal (Damaged table id) NotABook is is' told told' = absurd (lacks_damaged table id told' told)
-  one_refusal (Damaged table id) (Damaged other n) is is' told told' = one_place table other id n told told'
-  one_refusal (Damaged table id) NewerFormat is is' told told' = absurd (damaged_newer table id told told')
-  one_refusal NewerFormat NotABook is is' told told' = absurd (lacks_newer told' told)
-  one_refusal NewerFormat (Damaged other n) is is' told told' = absurd (damaged_newer other n told' told)
-  one_refusal NewerFormat NewerFormat is is' told told' = refl
+  one_refusal Lost other is is' reported reported' = absurd is
+  one_refusal NoMemory other is is' reported reported' = absurd is
+  one_refusal fault Lost is is' reported reported' = absurd is'
+  one_refusal fault NoMemory is is' reported reported' = absurd is'
+  one_refusal NotABook NotABook is is' reported reported' = refl
+  one_refusal NotABook (Damaged other n) is is' reported reported' = absurd (lacks_damaged other n reported reported')
+  one_refusal NotABook NewerFormat is is' reported reported' = absurd (lacks_newer reported reported')
+  one_refusal (Damaged table id) NotABook is is' reported reported' = absurd (lacks_damaged table id reported' reported)
+  one_refusal (Damaged table id) (Damaged other n) is is' reported reported' = one_place table other id n reported reported'
+  one_refusal (Damaged table id) NewerFormat is is' reported reported' = absurd (damaged_newer table id reported reported')
+  one_refusal NewerFormat NotABook is is' reported reported' = absurd (lacks_newer reported' reported)
+  one_refusal NewerFormat (Damaged other n) is is' reported reported' = absurd (damaged_newer other n reported' reported)
+  one_refusal NewerFormat NewerFormat is is' reported reported' = refl

@@ -26,8 +26,9 @@ use Rattle.desk_rows.specs.Contents.{Contents}
 use Rattle.desk_store.specs.Formats.{Format, IsOfFormat}
 use Rattle.desk_rows.specs.Layout.{Layout}
 use Rattle.desk_rows.specs.Making.{Differ, IsFileWithTables, IsGrown, is_among, new_layout, new_tables, with_none, with_tables}
-use Rattle.desk_store.specs.Filling.{FillsLacked, HoldsWith}
-use Rattle.desk_store.specs.Opened.{HasGained, Stands, which_new}
+use Rattle.desk_store.specs.FillingSteps.{FillsLacked, HoldsWith}
+use Rattle.desk_store.specs.Completing.{HasGained, which_new}
+use Rattle.desk_store.specs.Opened.{Stands}
 use Rattle.desk_rows.specs.Puts.{HasThem, put_into, puts_into}
 use Rattle.desk_rows.specs.States.{IsFile, ShowsContents}
 use Rattle.desk_rows.specs.Tables.{AreWritten}

@@ -9,13 +9,13 @@ use Rattle.sql_tables.specs.States.{IsSettled, Leaves}
 use Rattle.desk_model.specs.Book.{Book}
 use Rattle.desk_model.specs.Shows.{Shows as RowsShow}
 use Rattle.desk_store.specs.BookFile.{rows_of}
-use Rattle.desk_store.specs.Books.{HoldsBook, LeavesBook}
+use Rattle.desk_store.specs.Keeping.{HoldsBook, LeavesBook}
 use Rattle.desk_rows.specs.Contents.{Contents}
 use Rattle.desk_rows.specs.Layout.{IsOther, Layout}
 use Rattle.desk_rows.specs.Making.{with_tables}
 use Rattle.desk_model.specs.declared.new_tables.NewTables.{NewTables}
-use Rattle.desk_store.specs.Filling.{HoldsEitherWith, which_lacked}
-use Rattle.desk_store.specs.Opened.{HasGained}
+use Rattle.desk_store.specs.FillingSteps.{HoldsEitherWith, which_lacked}
+use Rattle.desk_store.specs.Completing.{HasGained}
 use Rattle.desk_rows.specs.States.{ShowsContents}
 use Rattle.desk_store.proofs.BookKeeps.{leaves_shown}
 

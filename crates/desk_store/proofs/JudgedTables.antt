@@ -28,7 +28,7 @@ use Rattle.desk_store.specs.Found.{AreFileRows, AreOtherRows, AreRowsIn, RowsSho
 use Rattle.desk_rows.specs.Layout.{Layout}
 use Rattle.desk_store.specs.Opened.{TellsOf}
 use Rattle.desk_store.specs.Opening.{CanAllBeRead, CanBeRead, IsBookRow, IsNewer, IsRefusal, Stays, TellsOfRow, format_in, has_tables, opened_as}
-use Rattle.desk_store.specs.Reading.{IsReadOf, ShowsReadable}
+use Rattle.desk_store.specs.ReadingSteps.{IsReadOf, ShowsReadable}
 use Rattle.desk_rows.specs.States.{ShowsContents}
 use Rattle.desk_rows.specs.Tables.{is_there}
 use Rattle.desk_rows.specs.declared.fault.DatabaseFault.{DatabaseFault}
@@ -65,11 +65,11 @@ book_row_in : (xs ys : List BookRow) (row : BookRow) → IsPermutation xs ys →
 book_row_in xs ys row same is = record { alone = same_one xs ys row same is.alone; sound = is.sound; format = is.format }
 
 -- what is reported of the rows that were read is reported of those of the file
-pub row_told : (l : Layout) (c : Contents) (rows : List BookRow) → l.has tables.Book ≡ true → IsPermutation (c.rows tables.Book) rows → (told : OpenFault) → TellsOfRow rows told → TellsOf l c told
-row_told l c rows has same (Damaged table id) tells =
+pub row_reported : (l : Layout) (c : Contents) (rows : List BookRow) → l.has tables.Book ≡ true → IsPermutation (c.rows tables.Book) rows → (reported : OpenFault) → TellsOfRow rows reported → TellsOf l c reported
+row_reported l c rows has same (Damaged table id) tells =
     inl (has, tells.0, damaged_in (c.rows tables.Book) rows id same tells.1, λ newer. tells.2 (newer_in rows (c.rows tables.Book) (IsPermutation-sym (c.rows tables.Book) rows same) newer))
-row_told l c rows has same NewerFormat tells = (has, newer_in (c.rows tables.Book) rows same tells)
-row_told l c rows has same told tells = absurd tells
+row_reported l c rows has same NewerFormat tells = (has, newer_in (c.rows tables.Book) rows same tells)
+row_reported l c rows has same reported tells = absurd tells
 
 -- ---- the row that a book's rows have
 
@@ -143,9 +143,9 @@ pub refusal_is : (fault : DatabaseFault) → IsRefusal (opened_as fault) → fau
 refusal_is reading.Refused is = refl
 refusal_is fault is = absurd is
 
-pub read_told : (l : Layout) (c : Contents) (fault : DatabaseFault) → (fault ≡ reading.Refused → TellsOf l c NotABook) → TellsOf l c (opened_as fault)
-read_told l c reading.Refused lacks = lacks refl
-read_told l c fault lacks = tt
+pub read_reported : (l : Layout) (c : Contents) (fault : DatabaseFault) → (fault ≡ reading.Refused → TellsOf l c NotABook) → TellsOf l c (opened_as fault)
+read_reported l c reading.Refused lacks = lacks refl
+read_reported l c fault lacks = tt
 
 -- ---- what was read
 
@@ -190,8 +190,8 @@ module _ {old new : State} {rows : List BookRow} {row : BookRow} (it : IsJudged 
   -- whether the tables of the row's format are there
   pub tables_there : {f : Format} {has is : Bool} → has ≡ has_tables f new.now.schema → f ≡ format_in row.format → has ≡ is
       → has_tables (format_in row.format) old.now.schema ≡ is
-  tables_there {f} told of found =
-      ap (λ (g : Format). has_tables g old.now.schema) (sym of) ∙ ap (λ (d : Database). has_tables f d.schema) (sym it.so_far.now) ∙ sym told ∙ found
+  tables_there {f} reported of found =
+      ap (λ (g : Format). has_tables g old.now.schema) (sym of) ∙ ap (λ (d : Database). has_tables f d.schema) (sym it.so_far.now) ∙ sym reported ∙ found
 
   -- the row is the file's
   row_of_file : (l : Layout) (c : Contents) → (IsExact l ⊎ IsOfEither l) → ShowsContents l c old → (l.has tables.Book ≡ true) × IsBookRow (c.rows tables.Book) row
@@ -261,11 +261,11 @@ module _ (s : State) (book : Book) (shows : RowsShowIn s book) (read : List Book
   })
 
   -- nothing is reported of the row that was read
-  pub row_is_sound : (told : OpenFault) → ¬ TellsOfRow read told
+  pub row_is_sound : (reported : OpenFault) → ¬ TellsOfRow read reported
   row_is_sound (Damaged table id) tells = sound others book shown tables.Book id tells.1
   row_is_sound NewerFormat (row, one, later) =
       let low = at_most_two shows.rows.entries book.version row (same_head _ _ (sym one ∙ shown.row)) in omega (arith, ints, low, later)
-  row_is_sound told tells = tells
+  row_is_sound reported tells = tells
 
   -- and it gives how its entries are kept
   pub kept_by_row : (row : BookRow) → IsBookRow read row → format_kept shows.rows.entries ≡ format_in row.format
@@ -277,6 +277,6 @@ module _ (s : State) (book : Book) (shows : RowsShowIn s book) (read : List Book
 
 -- what is reported of the rows of `book` refuses the file
 pub row_refuses : (rows : List BookRow) (fault : OpenFault) → TellsOfRow rows fault → IsRefusal fault
-row_refuses rows Lost told = told
-row_refuses rows NoMemory told = told
-row_refuses rows fault told = tt
+row_refuses rows Lost reported = reported
+row_refuses rows NoMemory reported = reported
+row_refuses rows fault reported = tt

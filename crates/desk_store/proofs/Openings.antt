@@ -23,20 +23,21 @@ use Rattle.desk_model.specs.declared.fault.PartsFault.{PartsFault}
 use Rattle.desk_model.specs.declared.fault.PartsFault.TheVariants as rebuilt
 use Rattle.desk_model.proofs.Callers.{first-damage, one_book, shown-same as shown, symmetric-same as symmetric, undamaged as sound}
 use Rattle.desk_store.specs.BookFile.{rows_of}
-use Rattle.desk_store.specs.Books.{LeavesBook, MayServe}
+use Rattle.desk_store.specs.Keeping.{LeavesBook, MayServe}
 use Rattle.desk_rows.specs.Contents.{Contents}
 use Rattle.desk_rows.specs.Failing.{FailsToChange, of_first_row}
 use Rattle.desk_store.specs.Formats.{IsExact, IsOfEither}
 use Rattle.desk_store.specs.Found.{HasNone, RowsShowIn}
 use Rattle.desk_rows.specs.Layout.{Layout}
 use Rattle.desk_rows.specs.Making.{IsMade, IsNew, new_layout, new_tables, with_tables}
-use Rattle.desk_store.specs.Filling.{FillsLacked, HoldsEitherWith, HoldsWith, which_lacked}
-use Rattle.desk_store.specs.Opened.{Completes, HasGained, HoldsEither, HoldsEmpty, HoldsNone, IsMadeNew, MayBring, OpensBook, Stands, TellsOf, TellsOfNone, lacking, missing_tables, which_new}
-use Rattle.desk_store.specs.Reading.{ReadsFile}
+use Rattle.desk_store.specs.FillingSteps.{FillsLacked, HoldsEitherWith, HoldsWith, which_lacked}
+use Rattle.desk_store.specs.Completing.{Completes, HasGained, lacking, missing_tables, which_new}
+use Rattle.desk_store.specs.Opened.{HoldsEither, HoldsEmpty, HoldsNone, IsMadeNew, MayBring, OpensBook, Stands, TellsOf, TellsOfNone}
+use Rattle.desk_store.specs.ReadingSteps.{ReadsFile}
 use Rattle.desk_store.specs.Opening.{IsOpenedAs, IsRefusal, opened_as, rebuilt_as}
 use Rattle.desk_rows.specs.States.{IsFile, ShowsContents}
 use Rattle.desk_rows.specs.Tables.{is_there}
-use Rattle.desk_rows.specs.Turns.{with_transaction}
+use Rattle.desk_rows.specs.Statements.{with_transaction}
 use Rattle.desk_rows.specs.declared.fault.DatabaseFault.{DatabaseFault}
 use Rattle.desk_rows.specs.declared.fault.DatabaseFault.TheVariants as fault
 use Rattle.desk_store.specs.declared.fault.OpenFault.{OpenFault}
@@ -82,9 +83,9 @@ module _ {S : Type 0} (g : Ghosts S) (make : Bool) (old : Held S) (there : ¬ Ha
 
   pub refuses : (new : State) (fault : OpenFault) → ((book : Book) → RowsShowIn s book → ¬ IsRefusal fault)
       → ((l : Layout) (c : Contents) → (IsExact l ⊎ IsOfEither l) → ShowsContents l c s → TellsOf l c fault) → (IsRefusal fault → ShowsAsBefore s new) → OpensBook g make old new (Err fault)
-  refuses new fault unrefused told before = record {
+  refuses new fault unrefused reported before = record {
     answers = record { found = tt; shown = λ book shows. (tt, unrefused book shows) };
-    reports = record { declared = λ l c some. told l c; bare = λ none. absurd (there none) };
+    reports = record { declared = λ l c some. reported l c; bare = λ none. absurd (there none) };
     stands = record { is_open = tt; opened = λ l c of shows. tt; made = λ none. tt; refused = before };
     ran = λ some. tt;
   }
@@ -92,12 +93,12 @@ module _ {S : Type 0} (g : Ghosts S) (make : Bool) (old : Held S) (there : ¬ Ha
   -- ---- once the rows are read
 
   module _ {mid : State} {rows : FileRows} (read : ReadsFile s mid rows) where
-    damage_told : (fault : PartsFault) → IsFaultOf rows fault → (l : Layout) (c : Contents) → (IsExact l ⊎ IsOfEither l) → ShowsContents l c s → TellsOf l c (rebuilt_as fault)
-    damage_told (rebuilt.Damaged table id) first l c those shows =
+    damage_reported : (fault : PartsFault) → IsFaultOf rows fault → (l : Layout) (c : Contents) → (IsExact l ⊎ IsOfEither l) → ShowsContents l c s → TellsOf l c (rebuilt_as fault)
+    damage_reported (rebuilt.Damaged table id) first l c those shows =
         let of = of_format s rows l c read.found those shows in
         let it = read.read of.0 l c of.1 shows in
         inr (record { row = it.row; book = it.book; of = it.of; readable = it.readable; first = first-damage rows (rows_of l c) table id (symmetric (rows_of l c) rows it.same) first })
-    damage_told rebuilt.NoMemory first l c those shows = tt
+    damage_reported rebuilt.NoMemory first l c those shows = tt
 
     damage_shows_none : (fault : PartsFault) → IsFaultOf rows fault → (book : Book) → RowsShowIn s book → ¬ IsRefusal (rebuilt_as fault)
     damage_shows_none (rebuilt.Damaged table id) first book shows refusal = sound rows book (shows.each rows read.found) table id first.damaged
@@ -105,7 +106,7 @@ module _ {S : Type 0} (g : Ghosts S) (make : Bool) (old : Held S) (there : ¬ Ha
 
     pub refuses_damaged : (fault : PartsFault) → IsFaultOf rows fault → OpensBook g make old mid (Err (rebuilt_as fault))
     refuses_damaged fault first =
-        refuses mid (rebuilt_as fault) (damage_shows_none fault first) (damage_told fault first) (λ refusal is_open. read.stays.now)
+        refuses mid (rebuilt_as fault) (damage_shows_none fault first) (damage_reported fault first) (λ refusal is_open. read.stays.now)
 
     -- ---- once they show a book
 
@@ -208,9 +209,9 @@ module _ {S : Type 0} (g : Ghosts S) (make : Bool) (old : Held S) (none : HasNon
   no_exact l c some shows = some (subst HasNone shows.schema none)
 
   pub refuses_new : (new : State) (fault : OpenFault) → TellsOfNone make g old new fault → (IsRefusal fault → ShowsAsBefore bare new) → OpensBook g make old new (Err fault)
-  refuses_new new fault told before = record {
+  refuses_new new fault reported before = record {
     answers = record { found = tt; shown = λ book shows. absurd (no_books shows.are.book) };
-    reports = record { declared = λ l c some those shows. absurd (no_exact l c some shows); bare = λ still. told };
+    reports = record { declared = λ l c some those shows. absurd (no_exact l c some shows); bare = λ still. reported };
     stands = record { is_open = tt; opened = λ l c of shows. tt; made = λ still. tt; refused = before };
     ran = λ some. tt;
   }
@@ -245,19 +246,19 @@ module _ {S : Type 0} (g : Ghosts S) (make : Bool) (old : Held S) (none : HasNon
   -- ---- what is reported if making the tables failed
 
   abbrev Failed : State → OpenFault → Type 0
-  Failed new told = (e : Error) × FailsToChange g new_tables (of_first_row g) (with_transaction old) new e × IsOpenedAs e told
+  Failed new reported = (e : Error) × FailsToChange g new_tables (of_first_row g) (with_transaction old) new e × IsOpenedAs e reported
 
-  pub tells_new : (new : State) (told : OpenFault) → make ≡ true → (is_there bare.now.schema tables.Cache ≡ true → told ≡ NotABook)
-      → (is_there bare.now.schema tables.Cache ≡ false → Failed new told) → TellsOfNone make g old new told
-  tells_new new told wanted beside failed = elim (cases_Bool (is_there bare.now.schema tables.Cache)) [
+  pub tells_new : (new : State) (reported : OpenFault) → make ≡ true → (is_there bare.now.schema tables.Cache ≡ true → reported ≡ NotABook)
+      → (is_there bare.now.schema tables.Cache ≡ false → Failed new reported) → TellsOfNone make g old new reported
+  tells_new new reported wanted beside failed = elim (cases_Bool (is_there bare.now.schema tables.Cache)) [
     | inl there ↦ inl (beside there, inr there)
     | inr free ↦ let it = failed free in inr (it.0, it.2.0, wanted, free, it.1, it.2.1, it.2.2)
   ]
 
-  refused_only : (why : DatabaseFault) (told : OpenFault) → told ≡ opened_as why → IsRefusal told → told ≡ NotABook
-  refused_only fault.Refused told is refusal = is
-  refused_only why told is refusal = absurd (subst IsRefusal is refusal)
+  refused_only : (why : DatabaseFault) (reported : OpenFault) → reported ≡ opened_as why → IsRefusal reported → reported ≡ NotABook
+  refused_only fault.Refused reported is refusal = is
+  refused_only why reported is refusal = absurd (subst IsRefusal is refusal)
 
-  pub only_no_book : (new : State) (told : OpenFault) → TellsOfNone make g old new told → IsRefusal told → told ≡ NotABook
-  only_no_book new told (inl it) refusal = it.0
-  only_no_book new told (inr it) refusal = refused_only it.1 told it.6 refusal
+  pub only_no_book : (new : State) (reported : OpenFault) → TellsOfNone make g old new reported → IsRefusal reported → reported ≡ NotABook
+  only_no_book new reported (inl it) refusal = it.0
+  only_no_book new reported (inr it) refusal = refused_only it.1 reported it.6 refusal

@@ -14,7 +14,7 @@ use Rattle.sql_tables.specs.States.{IsSettled}
 use Rattle.sql_tables.proofs.OneSchema.{one_schema}
 use Rattle.desk_model.specs.Book.{Book, empty_book}
 use Rattle.desk_model.proofs.Callers.{Contains-behind, Contains-here}
-use Rattle.desk_store.specs.Books.{HasNewTables, HoldsBook}
+use Rattle.desk_store.specs.Keeping.{HasNewTables, HoldsBook}
 use Rattle.desk_rows.specs.Contents.{Contents}
 use Rattle.desk_rows.specs.Layout.{Layout}
 use Rattle.desk_rows.specs.States.{IsFile}
@@ -22,7 +22,8 @@ use Rattle.desk_rows.specs.Tables.{is_there}
 use Rattle.desk_rows.proofs.Schema.Schemas.{shows_committed}
 use Rattle.desk_store.specs.Formats.{Format, IsOfFormat, IsPresent, named, needed}
 use Rattle.desk_store.specs.Found.{HasNone}
-use Rattle.desk_store.specs.Opened.{FindsBook, HoldsEither, HoldsEmpty, HoldsNone, OpensBook, Stands, with_missing_tables}
+use Rattle.desk_store.specs.Completing.{with_missing_tables}
+use Rattle.desk_store.specs.Opened.{FindsBook, HoldsEither, HoldsEmpty, HoldsNone, OpensBook, Stands}
 use Rattle.desk_store.specs.Opening.{IsRefusal}
 use Rattle.desk_store.specs.Reopened.{HoldsOneOf, HoldsStanding, IsKeptThere}
 use Rattle.desk_store.specs.declared.fault.OpenFault.{OpenFault}

@@ -21,7 +21,7 @@ use Rattle.desk_rows.specs.Layout.{Layout}
 use Rattle.desk_store.specs.Found.{HasNone, format_kept}
 use Rattle.desk_store.specs.Opened.{FindsBook, OpensBook, Stands, TellsOf}
 use Rattle.desk_store.specs.Opening.{CanAllBeRead, IsRefusal, format_in}
-use Rattle.desk_store.specs.Reading.{AreEntriesReadable}
+use Rattle.desk_store.specs.ReadingSteps.{AreEntriesReadable}
 use Rattle.desk_store.specs.declared.fault.OpenFault.{OpenFault}
 use Rattle.desk_store.specs.declared.fault.OpenFault.TheVariants.{NotABook, Damaged, NewerFormat}
 use Rattle.desk_store.proofs.AnyFile.{all_readable}
@@ -70,14 +70,14 @@ module _ (l : Layout) (c : Contents) (book : Book) (shows : RowsShow (rows_of l 
   pub row_is : (f : Format) → IsOfFormat f l → (row : BookRow) → c.rows tables.Book ≡ row ∷ [] → format_in row.format ≡ f
   row_is f of row is = ap (λ (r : BookRow). format_in r.format) (head_is row is) ∙ numbered (rows_of l c).entries ∙ entries_are l c f of
 
-  pub never_refused : (f : Format) → IsOfFormat f l → (told : OpenFault) → TellsOf l c told → ¬ IsRefusal told
+  pub never_refused : (f : Format) → IsOfFormat f l → (reported : OpenFault) → TellsOf l c reported → ¬ IsRefusal reported
   never_refused f of NotABook (inl none) is = absurd (true≢false (sym (has_in_both f l tables.Book of refl).1 ∙ none))
   never_refused f of NotABook (inr (row, there, book_row, not)) is =
       not (subst (λ (g : Format). CanAllBeRead g l c) (sym (row_is f of row book_row.alone)) (can_be_read f of))
   never_refused f of (Damaged table id) (inl (there, is_book, damaged, known)) is = sound (rows_of l c) book shows tables.Book id damaged
   never_refused f of (Damaged table id) (inr damage) is = sound (rows_of l c) book shows table id damage.first.damaged
   never_refused f of NewerFormat (there, (row, one, later)) is = let low = low_format row one in omega (arith, ints, low, later)
-  never_refused f of told tells is = is
+  never_refused f of reported tells is = is
 
 not_bare : (f : Format) (l : Layout) → IsOfFormat f l → ¬ HasNone l.schema
 not_bare f l of none = let there = books_there f l of in absurd (true≢false (rw there at none))

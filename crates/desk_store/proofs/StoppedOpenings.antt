@@ -31,13 +31,13 @@ query_as_before t old new e same (inr h) opened =
 
 read_as_before : {X : Type 0} (t : FileTable) (written : X → Row) (Apart : List X → Type 0) (old new : State) (why : DatabaseFault) → old.now ≡ old.committed
     → FailsAs (query_of t) written Apart old new why → ShowsAsBefore old new
-read_as_before t written Apart old new why same (failed e fails told) opened = query_as_before t old new e same fails opened
+read_as_before t written Apart old new why same (failed e fails reported) opened = query_as_before t old new e same fails opened
 read_as_before t written Apart old new why same (unreadable rows seen not is) opened = (shown_quietly (description_of t).read (reads_only t) [] old new rows seen).0.now_is
 read_as_before t written Apart old new why same (together xs gives not is) opened = (shown_quietly (description_of t).read (reads_only t) [] old new gives.0 gives.1).0.now_is
 read_as_before t written Apart old new why same (no_memory row rows seen begins is) opened = (shown_quietly (description_of t).read (reads_only t) [] old new (row ∷ rows) seen).0.now_is
 
-module _ {S : Type 0} (g : Ghosts S) (old : Held S) (new : State) (told : OpenFault) (same : (state g old).now ≡ (state g old).committed) where
-  pub still_shown : StopsOpening g old new told → ShowsAsBefore (state g old) new
+module _ {S : Type 0} (g : Ghosts S) (old : Held S) (new : State) (reported : OpenFault) (same : (state g old).now ≡ (state g old).committed) where
+  pub still_shown : StopsOpening g old new reported → ShowsAsBefore (state g old) new
   still_shown (reading why stops is) opened =
       let mid = state g stops.before in
       read_as_before stops.table _ _ mid new why (stops.stays.now ∙ same ∙ sym stops.stays.committed) stops.fails opened ∙ stops.stays.now

@@ -33,7 +33,7 @@ use Rattle.desk_store.specs.Formats.{Format, IsOfFormat, IsPresent, Presence, na
 use Rattle.desk_store.specs.Found.{AreCellsIn, AreEntriesIn, AreOtherRows, AreRowsIn, AreToldApart, IsReadAs}
 use Rattle.desk_store.specs.Opened.{StopsReading}
 use Rattle.desk_store.specs.Opening.{CanBeRead, IsBookRow, Stays, format_in}
-use Rattle.desk_store.specs.Reading.{AreFileCells, AreFileEntries, AreRest, AreTableRows, FailsToRead, IsReadFrom, ReadsCells, ReadsEntries, ReadsTable, ShowsReadable}
+use Rattle.desk_store.specs.ReadingSteps.{AreFileCells, AreFileEntries, AreRest, AreTableRows, FailsToRead, IsReadFrom, ReadsCells, ReadsEntries, ReadsTable, ShowsReadable}
 use Rattle.desk_store.proofs.AnyFile.{all_readable, can_all_still, gives_before, readable_still, shown_before}
 use Rattle.desk_store.proofs.Opened.{as_it_was, as_listed, has_in_both, in_both, same_state, shows_still, stays_then}
 
@@ -106,7 +106,7 @@ table_fails g f t old {new} {why} read answers =
       is_read = read;
       before = old;
       stays = same_state s;
-      fails = answers.told;
+      fails = answers.reported;
     }
 
 -- a table that is read after others is one to be read at first, too
@@ -124,7 +124,7 @@ book_stops g old answers = record {
   is_read = inl refl;
   before = old;
   stays = same_state (state g old);
-  fails = answers.told;
+  fails = answers.reported;
 }
 
 -- another table of the format that its row names isn't read

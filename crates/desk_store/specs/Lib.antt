@@ -1,10 +1,11 @@
 pub mod Formats
 pub mod BookFile
-pub mod Books
+pub mod Keeping
 pub mod Opening
 pub mod Found
+pub mod Completing
 pub mod Opened
-pub mod Reading
-pub mod Filling
+pub mod ReadingSteps
+pub mod FillingSteps
 pub mod Undamaged
 pub mod Reopened

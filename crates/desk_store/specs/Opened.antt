@@ -1,7 +1,6 @@
 -- What opening a book's file reports, what it writes, and what the connection shows then.
-use Rattle.std.specs.Prelude.{not, ◌≡◌, ◌⊎◌, ℤ, Bool, true, false, IsTrue, List, [], ◌∷◌, ◌++◌, filter, map}
-use Rattle.std.specs.Prelude.{Option, Some, None, MatchOption, IfErr, IfOk, OnOk, Result, ⊤}
-use Rattle.sqlite_catalog.specs.Change.{KeepsRows}
+use Rattle.std.specs.Prelude.{◌≡◌, ◌⊎◌, ℤ, Bool, true, false, IsTrue, List}
+use Rattle.std.specs.Prelude.{Some, IfErr, IfOk, OnOk, Result, ⊤}
 use Rattle.sqlite_catalog.specs.Listing.{IsSound}
 use Rattle.sqlite_schema.specs.declared.schema.Schema.{Schema}
 use Rattle.sqlite_trees.specs.Tree.{Trees}
@@ -9,36 +8,33 @@ use Rattle.sqlite_trees.specs.declared.store.Store.{Ghosts}
 use Rattle.sqlite.specs.declared.error.Error.{Error}
 use Rattle.sqlite.specs.Held.{Held, state}
 use Rattle.sqlite.specs.State.{HasCleanDisk, State, Survives}
-use Rattle.sql_tables.specs.Making.{KeepsAside}
 use Rattle.sql_tables.specs.States.{Leaves, ShowsAsBefore}
 use Rattle.desk_model.specs.Book.{Book, empty_book}
 use Rattle.desk_model.specs.Damage.{IsDamagedBook, IsFirstDamage}
 use Rattle.desk_parts.specs.declared.file_table.FileTable.{FileTable}
 use Rattle.desk_parts.specs.declared.file_table.FileTable.TheVariants as tables
-use Rattle.desk_parts.specs.FileRows.{EntryRows, FileRows, Named, Unnamed}
+use Rattle.desk_parts.specs.FileRows.{FileRows}
 use Rattle.desk_parts.specs.Puts.{LendsFirst, RowPut}
-use Rattle.desk_parts.specs.Rows.{ParaCells}
 use Rattle.desk_model.specs.FilledRows.{Fills}
 use Rattle.desk_model.specs.Shows.{Shows as RowsShow}
 use Rattle.desk_model.specs.declared.new_tables.NewTables.{NewTables}
-use Rattle.desk_model.specs.declared.new_tables.NewTables.TheVariants.{Braille, Entries, EntriesAndBraille}
 use Rattle.desk_parts.specs.declared.rows.BookRow.{BookRow}
 use Rattle.desk_store.specs.BookFile.{rows_of}
-use Rattle.desk_store.specs.Books.{HasNewTables, HoldsBook, LeavesBook, MayServe, ShowsBook, WithBook}
+use Rattle.desk_store.specs.Keeping.{HasNewTables, HoldsBook, LeavesBook, MayServe, ShowsBook}
 use Rattle.desk_rows.specs.Contents.{Contents}
 use Rattle.desk_rows.specs.TableQuery.{FailsAs, query_of}
 use Rattle.desk_rows.specs.Failing.{FailsToChange, of_first_row, of_items}
-use Rattle.desk_rows.specs.Fault.{IsToldAs}
+use Rattle.desk_rows.specs.Fault.{IsReportedAs}
+use Rattle.desk_store.specs.Completing.{Completes, HasGained, lacking, missing_tables, which_new, with_missing_tables}
 use Rattle.desk_store.specs.Formats.{IsExact, IsOfEither, IsOfFormat, presence}
 use Rattle.desk_store.specs.Found.{AreFileRows, AreRowsIn, AreToldApart, HasNone, IsReadAs, RowsShowIn, ShowsIn}
 use Rattle.desk_rows.specs.Layout.{Layout}
-use Rattle.desk_rows.specs.Making.{IsMade, IsNew, creation, new_layout, new_tables, with_tables}
-use Rattle.desk_rows.specs.Puts.{statement}
+use Rattle.desk_rows.specs.Making.{IsMade, IsNew, new_layout, new_tables}
 use Rattle.desk_store.specs.Opening.{CanAllBeRead, IsBookRow, IsNewer, IsRefusal, Stays, format_in, opened_as}
 use Rattle.desk_rows.specs.Rows.{shown_columns}
 use Rattle.desk_rows.specs.States.{IsFile, ShowsContents}
 use Rattle.desk_rows.specs.Tables.{is_there}
-use Rattle.desk_rows.specs.Turns.{RunInTurn, with_transaction}
+use Rattle.desk_rows.specs.Statements.{with_transaction}
 use Rattle.desk_rows.specs.declared.fault.DatabaseFault.{DatabaseFault}
 use Rattle.desk_rows.specs.declared.fault.DatabaseFault.TheVariants as fault
 use Rattle.desk_store.specs.declared.fault.OpenFault.{OpenFault}
@@ -77,64 +73,17 @@ TellsOf l c NoMemory = ⊤
 -- table of a new file or puts the row of `book` failed, or the commit did, with an error that is
 -- reported so.
 abbrev pub TellsOfNone : {S : Type 0} → (make : Bool) → Ghosts S → Held S → State → OpenFault → Type 0
-TellsOfNone make g old new told =
-    ((told ≡ NotABook) × ((make ≡ false) ⊎ (is_there (state g old).now.schema tables.Cache ≡ true)))
+TellsOfNone make g old new reported =
+    ((reported ≡ NotABook) × ((make ≡ false) ⊎ (is_there (state g old).now.schema tables.Cache ≡ true)))
     ⊎ ((e : Error) × (why : DatabaseFault) × (make ≡ true) × (is_there (state g old).now.schema tables.Cache ≡ false)
-    × FailsToChange g new_tables (of_first_row g) (with_transaction old) new e × IsToldAs e why
-    × (told ≡ opened_as why))
-
--- ---- the tables that a book's file lacks
-
--- which of two tables, one for entries with names and one for the cells of the paragraphs, a file
--- with these rows lacks, if any
-abbrev pub lacking : EntryRows → Option (List ParaCells) → Option NewTables
-lacking (Unnamed entries) None = Some EntriesAndBraille
-lacking (Unnamed entries) (Some cells) = Some Entries
-lacking (Named entries) None = Some Braille
-lacking (Named entries) (Some cells) = None
-
--- these tables, in the order in which they are made
-abbrev pub which_new : NewTables → List FileTable
-which_new EntriesAndBraille = tables.Cache ∷ tables.NamedCorr ∷ []
-which_new Entries = tables.NamedCorr ∷ []
-which_new Braille = tables.Cache ∷ []
-
--- of these two, those that a layout lacks, in the same order
-abbrev pub missing_tables : Layout → List FileTable
-missing_tables l = filter (λ t. not (l.has t)) (tables.Cache ∷ tables.NamedCorr ∷ [])
-
--- the layout with those of the two that it lacks
-abbrev pub with_missing_tables : Layout → Layout
-with_missing_tables l = with_tables (missing_tables l) l
+    × FailsToChange g new_tables (of_first_row g) (with_transaction old) new e × IsReportedAs e why
+    × (reported ≡ opened_as why))
 
 -- ---- what stands in a file, and what it is after opening
-
--- In any file, however its tables are declared: its statements give rows that show the book; and
--- the statements that make what the file lacks, and fill it with what the book has for it, ran in
--- turn on the connection as it was, none if it lacks nothing.
-pub record Completes {S : Type 0} (g : Ghosts S) (old : Held S) (book : Book) (last : Held S) : Type 0 where
-  pub rows : FileRows
-  pub are : AreFileRows (state g old) rows
-  pub shown : RowsShow rows book
-  pub made : List FileTable
-  pub puts : List RowPut
-  pub lacks : MatchOption (lacking rows.entries rows.caches) ((made ≡ []) × (puts ≡ []))
-      (λ tables. (made ≡ which_new tables) × Fills tables book puts)
-  pub before : Held S
-  pub stays : Stays (state g old) (state g before)
-  pub ran : RunInTurn g (map creation made ++ map statement puts) (with_transaction before) last
 
 -- the connection shows the book in a file of either format
 abbrev pub Stands : Layout → Book → State → Type 0
 Stands l book s = IsOfEither l × ShowsBook l book s
-
--- The book in the file with these tables too, in which nothing else is lost: the rows of `corr`, of
--- all tables that aren't those of a book, and what the database keeps aside are as they were.
-abbrev pub HasGained :
-    List FileTable → Layout → Contents → Book → Trees → (Layout → Contents → Type 0) → Type 0
-HasGained made l c book rows P =
-    WithBook (with_tables made l) book (λ d. P (with_tables made l) d × (d.rows tables.Corr ≡ c.rows tables.Corr)
-    × KeepsRows l.schema.tables rows d.others × KeepsAside l.schema rows d.others)
 
 -- the trees are those of a database without the tables of a book
 abbrev pub HoldsNone : Trees → Type 0
@@ -198,27 +147,28 @@ filled_as fault.Refused = Lost
 -- is reported so, or the commit did. If the connection is open still, it shows what it showed
 -- before.
 pub record StopsFilling {S : Type 0} (g : Ghosts S) (tables : NewTables) (book : Book) (old : Held S)
-    (new : State) (told : OpenFault) : Type 0 where
+    (new : State) (reported : OpenFault) : Type 0 where
   pub puts : List RowPut
   pub fill : Fills tables book puts
   pub error : Error
   pub fails : FailsToChange g (which_new tables) (of_items g LendsFirst puts) (with_transaction old) new error
   pub why : DatabaseFault
-  pub is_caused : IsToldAs error why
-  pub is_told : told ≡ filled_as why
+  pub is_caused : IsReportedAs error why
+  pub is_reported : reported ≡ filled_as why
   pub as_before : ShowsAsBefore (state g old) new
 
 -- A table isn't read; or all of them are, and there is no memory for the book; or they show a book,
 -- and what the file lacks isn't filled.
-pub data StopsOpening {S : Type 0} (g : Ghosts S) (old : Held S) (new : State) (told : OpenFault)
+pub data StopsOpening {S : Type 0} (g : Ghosts S) (old : Held S) (new : State) (reported : OpenFault)
     : Type 0 where
-  reading : (why : DatabaseFault) → StopsReading g old new why → told ≡ opened_as why → StopsOpening g old new told
-  rebuilding : (rows : FileRows) → AreFileRows (state g old) rows → Stays (state g old) new → told ≡ NoMemory
-      → StopsOpening g old new told
+  reading : (why : DatabaseFault) → StopsReading g old new why → reported ≡ opened_as why
+      → StopsOpening g old new reported
+  rebuilding : (rows : FileRows) → AreFileRows (state g old) rows → Stays (state g old) new → reported ≡ NoMemory
+      → StopsOpening g old new reported
   filling : (rows : FileRows) (book : Book) (tables : NewTables) (before : Held S)
       → AreFileRows (state g old) rows → RowsShow rows book → lacking rows.entries rows.caches ≡ Some tables
-      → Stays (state g old) (state g before) → StopsFilling g tables book before new told
-      → StopsOpening g old new told
+      → Stays (state g old) (state g before) → StopsFilling g tables book before new reported
+      → StopsOpening g old new reported
 
 -- ---- the whole
 

@@ -14,7 +14,7 @@ use Rattle.desk_model.specs.declared.fault.PartsFault.TheVariants as rebuilt
 use Rattle.desk_parts.specs.declared.rows.BookRow.{BookRow}
 use Rattle.desk_parts.specs.FileRows.{HasUtf8Texts}
 use Rattle.desk_rows.specs.Contents.{Contents}
-use Rattle.desk_rows.specs.Fault.{IsToldAs}
+use Rattle.desk_rows.specs.Fault.{IsReportedAs}
 use Rattle.desk_store.specs.Formats.{Format, Presence, needed, optional, foreign, unread, unnamed, named, presence}
 use Rattle.desk_rows.specs.Layout.{Layout}
 use Rattle.desk_rows.specs.Tables.{is_there}
@@ -35,7 +35,7 @@ opened_as fault.Refused = NotABook
 
 -- how an error of the database is reported
 abbrev pub IsOpenedAs : Error → OpenFault → Type 0
-IsOpenedAs e told = (fault : DatabaseFault) × IsToldAs e fault × (told ≡ opened_as fault)
+IsOpenedAs e reported = (fault : DatabaseFault) × IsReportedAs e fault × (reported ≡ opened_as fault)
 
 -- how it is reported that the rows show no book
 abbrev pub rebuilt_as : PartsFault → OpenFault

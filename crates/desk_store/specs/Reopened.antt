@@ -6,7 +6,7 @@ use Rattle.sqlite.specs.State.{State}
 use Rattle.sql_tables.specs.States.{Leaves}
 use Rattle.desk_model.specs.Book.{Book}
 use Rattle.desk_rows.specs.Layout.{Layout}
-use Rattle.desk_store.specs.Books.{HoldsBook, MayServe}
+use Rattle.desk_store.specs.Keeping.{HoldsBook, MayServe}
 use Rattle.desk_store.specs.Formats.{IsOfEither}
 
 -- the trees are a file of either format, whose rows show the book

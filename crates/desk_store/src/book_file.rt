@@ -15,7 +15,7 @@ ghost use Rattle.desk_store.specs.Found.{RowsShowIn, format_kept};
 ghost use Rattle.desk_rows.specs.Layout.{Layout};
 ghost use Rattle.desk_store.specs.Opened.{StopsOpening, TellsOf};
 ghost use Rattle.desk_store.specs.Opening.{IsBookRow, IsRefusal, Stays, TellsOfRow, format_in, format_read, has_tables};
-ghost use Rattle.desk_store.specs.Reading.{FailsToRead, ReadsCells, ReadsEntries, ReadsFile, ReadsRest};
+ghost use Rattle.desk_store.specs.ReadingSteps.{FailsToRead, ReadsCells, ReadsEntries, ReadsFile, ReadsRest};
 ghost use Rattle.desk_rows.specs.States.{ShowsContents};
 ghost use Rattle.desk_rows.specs.Tables.{is_there};
 
@@ -46,7 +46,7 @@ fn is_sound(row: &BookRow) -> bool
 /// The row of `book`, which has to be the only one, sound, and of a format that is read.
 fn judge_book(rows: &[BookRow]) -> Result<BookRow, OpenFault>
     ensures book { IfOk result (IsBookRow rows.now) }
-    ensures told { IfErr result (TellsOfRow rows.now) }
+    ensures reported { IfErr result (TellsOfRow rows.now) }
 {
     match rows {
         [row] if row.format > NEWEST_FORMAT => Err(OpenFault::NewerFormat),
@@ -180,7 +180,7 @@ pub(crate) fn read_parts<S: Alter>(
         → RowsShowIn (state S.Store conn.old) book → IfErr result (λ fault. ¬ IsRefusal fault) }
     // If the tables that are there, or those that are read in a file of a format, are declared as
     // those of a new file, this is reported.
-    ensures told { HasCleanDisk (state S.Store conn.new) → (l : Layout) (c : Contents)
+    ensures reported { HasCleanDisk (state S.Store conn.new) → (l : Layout) (c : Contents)
         → IsExact l ⊎ IsOfEither l → ShowsContents l c (state S.Store conn.old)
         → IfErr result (TellsOf l c) }
     ensures refused { HasCleanDisk (state S.Store conn.new) → IfErr result (λ fault. IsRefusal fault

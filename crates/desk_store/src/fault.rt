@@ -35,7 +35,7 @@ impl From<DatabaseFault> for OpenFault {
     ghost use Rattle.desk_store.specs.Opening.{opened_as};
     ghost use Rattle.std.specs.Prelude.{◌≡◌};
 
-    ghost from_gives = { λ fault told. told ≡ opened_as fault };
+    ghost from_gives = { λ fault reported. reported ≡ opened_as fault };
 
     fn from(fault: DatabaseFault) -> Self {
         match fault {
@@ -50,7 +50,7 @@ impl From<PartsFault> for OpenFault {
     ghost use Rattle.desk_store.specs.Opening.{rebuilt_as};
     ghost use Rattle.std.specs.Prelude.{◌≡◌};
 
-    ghost from_gives = { λ fault told. told ≡ rebuilt_as fault };
+    ghost from_gives = { λ fault reported. reported ≡ rebuilt_as fault };
 
     fn from(fault: PartsFault) -> Self {
         match fault {

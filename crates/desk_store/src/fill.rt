@@ -2,10 +2,11 @@
 
 ghost use Rattle.std.specs.Prelude.{◌≡◌, false, OnOk, Some};
 ghost use Rattle.desk_parts.specs.Parts.{rows_in};
-ghost use Rattle.desk_rows.specs.Fault.{IsToldAs};
+ghost use Rattle.desk_rows.specs.Fault.{IsReportedAs};
 ghost use Rattle.desk_rows.specs.declared.fault.DatabaseFault.{DatabaseFault};
-ghost use Rattle.desk_store.specs.Filling.{FillsFile};
-ghost use Rattle.desk_store.specs.Opened.{filled_as, lacking, which_new};
+ghost use Rattle.desk_store.specs.FillingSteps.{FillsFile};
+ghost use Rattle.desk_store.specs.Completing.{lacking, which_new};
+ghost use Rattle.desk_store.specs.Opened.{filled_as};
 ghost use Rattle.desk_store.specs.Opening.{IsRefusal};
 ghost use Rattle.sql_tables.specs.States.{IsCommitted, IsSettled};
 ghost use Rattle.sqlite.specs.Held.{state};
@@ -33,7 +34,7 @@ pub(crate) fn lacked_by(parts: &Parts) -> Option<NewTables>
 /// How an error is reported that stopped the filling of a file which shows a book: that one is
 /// there is known by then, so no error says that there is none.
 fn stopped_by(error: Error) -> OpenFault
-    ensures told { (why : DatabaseFault) × IsToldAs error why × (result ≡ filled_as why) }
+    ensures reported { (why : DatabaseFault) × IsReportedAs error why × (result ≡ filled_as why) }
     ensures not_refused { ¬ IsRefusal result }
 {
     match DatabaseFault::of(error) {

@@ -3,7 +3,7 @@
 ghost use Rattle.desk_model.specs.Book.{Book, empty_book};
 ghost use Rattle.desk_rows.specs.Contents.{Contents};
 ghost use Rattle.desk_rows.specs.Layout.{Layout};
-ghost use Rattle.desk_store.specs.Books.{HasNewTables, LeavesBook, LeavesEither};
+ghost use Rattle.desk_store.specs.Keeping.{HasNewTables, LeavesBook, LeavesEither};
 ghost use Rattle.desk_store.specs.Formats.{Format, IsExact, IsOfEither, IsOfFormat};
 ghost use Rattle.desk_store.specs.Found.{HasNone, RowsShowIn};
 ghost use Rattle.desk_store.specs.Opened.{FindsBook, HoldsEither, HoldsEmpty, HoldsNone};

@@ -1,8 +1,8 @@
 //! Laws of books in files.
 
 ghost use Rattle.desk_store.specs.BookFile.{HaveOwnNumbers, rows_of};
-ghost use Rattle.desk_store.specs.Books.{HoldsKept, LeadsTo, LeavesBook, LeavesEither};
-ghost use Rattle.desk_store.specs.Books.{MayKeep, MayServe, ShowsBook, shown_by};
+ghost use Rattle.desk_store.specs.Keeping.{HoldsKept, LeadsTo, LeavesBook, LeavesEither};
+ghost use Rattle.desk_store.specs.Keeping.{MayKeep, MayServe, ShowsBook, shown_by};
 ghost use Rattle.desk_rows.specs.Contents.{Contents};
 ghost use Rattle.desk_model.specs.Book.{Book};
 ghost use Rattle.desk_parts.specs.FileRows.{FileRows};
@@ -12,8 +12,8 @@ ghost use Rattle.desk_parts.specs.declared.file_table.FileTable.{FileTable};
 ghost use Rattle.desk_rows.specs.Layout.{Layout};
 ghost use Rattle.desk_store.specs.Formats.{Format, IsExact, IsOfFormat, named, unnamed};
 ghost use Rattle.desk_rows.specs.Making.{after, is_among, new_layout, with_tables};
-ghost use Rattle.desk_store.specs.Opened.{FindsBook, HoldsEither, IsMadeNew, IsOpened};
-ghost use Rattle.desk_store.specs.Opened.{OpensBook, Stands, with_missing_tables};
+ghost use Rattle.desk_store.specs.Opened.{FindsBook, HoldsEither, IsMadeNew, IsOpened, OpensBook, Stands};
+ghost use Rattle.desk_store.specs.Completing.{with_missing_tables};
 ghost use Rattle.desk_store.specs.declared.fault.OpenFault.{OpenFault};
 ghost use Rattle.sql_tables.specs.States.{Leaves};
 ghost use Rattle.sqlite.specs.Held.{state};

@@ -10,7 +10,7 @@ ghost use Rattle.desk_rows.specs.Making.{IsMade, IsNew, new_layout, new_tables};
 ghost use Rattle.desk_store.specs.Opening.{IsOpenedAs};
 ghost use Rattle.desk_rows.specs.States.{ShowsContents};
 ghost use Rattle.desk_rows.specs.Tables.{is_there};
-ghost use Rattle.desk_rows.specs.Turns.{with_transaction};
+ghost use Rattle.desk_rows.specs.Statements.{with_transaction};
 
 use crate::fault::OpenFault;
 use desk_parts::FileTable;
@@ -42,11 +42,11 @@ pub(crate) fn make_book<S: Alter>(conn: &mut Connection<S>) -> Result<(), OpenFa
         → IfErr result (λ fault. fault ≡ OpenFault.NotABook
         → Survives (state S.Store conn.old) (state S.Store conn.new) (λ _. ⊥)) }
     // The error is what the database answered to one of the statements or to the commit.
-    ensures told { HasCleanDisk (state S.Store conn.new)
+    ensures reported { HasCleanDisk (state S.Store conn.new)
         → is_there (state S.Store conn.old).now.schema FileTable.Cache ≡ false
-        → IfErr result (λ told. (e : Failure)
+        → IfErr result (λ reported. (e : Failure)
         × FailsToChange S.Store new_tables (of_first_row S.Store) (with_transaction conn.old)
-        (state S.Store conn.new) e × IsOpenedAs e told) }
+        (state S.Store conn.new) e × IsOpenedAs e reported) }
     // If `cache` is there, nothing is done.
     ensures beside { is_there (state S.Store conn.old).now.schema FileTable.Cache ≡ true
         → (result ≡ Err OpenFault.NotABook) × (conn.new ≡ conn.old) }

@@ -2,11 +2,11 @@
 
 ghost use Rattle.std.specs.Prelude.{◌≡◌, ◌⊎◌, Bool, Err, None, Some, false, true, IfErr, IfOk, IsTrue, Ok, OnOk};
 ghost use Rattle.desk_model.specs.Book.{Book as BookOf};
-ghost use Rattle.desk_store.specs.Books.{LeavesBook, shown_by};
+ghost use Rattle.desk_store.specs.Keeping.{LeavesBook, shown_by};
 ghost use Rattle.desk_store.specs.Found.{HasNone};
 ghost use Rattle.desk_rows.specs.Layout.{Layout};
 ghost use Rattle.desk_rows.specs.Making.{with_tables};
-ghost use Rattle.desk_store.specs.Filling.{FillsFile, HoldsEitherWith, which_lacked};
+ghost use Rattle.desk_store.specs.FillingSteps.{FillsFile, HoldsEitherWith, which_lacked};
 ghost use Rattle.desk_store.specs.Opened.{HoldsEither, HoldsEmpty, HoldsNone, OpensFile, Stands};
 ghost use Rattle.sql_tables.specs.States.{Leaves};
 ghost use Rattle.sqlite.specs.Held.{Held, state};
@@ -143,7 +143,7 @@ impl<S: Alter + Drop> Store<S> {
             OpensFile S.Store make connection (shown_by S.Store it.0) (Ok it.1)) }
         ensures kept { IfOk result (λ it. it.0.lost ≡ false) }
         // This holds of some connection; that it is the one that was dropped, no contract can say.
-        ensures told { IfErr result (λ fault. (last : Held S)
+        ensures reported { IfErr result (λ fault. (last : Held S)
             × OpensFile S.Store make connection (state S.Store last) (Err fault)) }
     {
         let book = Store::open_on(alloc, &mut connection, make)?;

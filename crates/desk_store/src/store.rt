@@ -2,7 +2,7 @@
 
 ghost use Rattle.std.specs.Prelude.{◌≡◌, false, true, IfErr, IsErr, IsTrue, OnErr, OnOk, is_ok};
 ghost use Rattle.desk_book.specs.Changes.{Carries};
-ghost use Rattle.desk_store.specs.Books.{FailsToKeep, KeepsChange, shown_by};
+ghost use Rattle.desk_store.specs.Keeping.{FailsToKeep, KeepsChange, shown_by};
 ghost use Rattle.sqlite.specs.Held.{state};
 ghost use Rattle.sqlite.specs.State.{HasCleanDisk};
 
@@ -27,7 +27,7 @@ pub struct Store<S: Alter> {
 }
 
 impl<S: Alter> Model for Store<S> {
-    ghost use Rattle.desk_store.specs.Books.{Store, store_code};
+    ghost use Rattle.desk_store.specs.Keeping.{Store, store_code};
     ghost use Rattle.std.specs.Prelude.{◌≡◌, false};
 
     ghost Value = { Store S };
@@ -52,7 +52,7 @@ fn put_change<'a, S: Alter>(
     ensures idle { conn.new.in_transaction ≡ false }
     ensures keeps { KeepsChange S.Store book.now change.now conn.old (state S.Store conn.new)
         (is_ok result) }
-    ensures told { HasCleanDisk (state S.Store conn.new)
+    ensures reported { HasCleanDisk (state S.Store conn.new)
         → IfErr result (FailsToKeep S.Store book.now change.now conn.old (state S.Store conn.new)) }
 {
     write(alloc, conn, change.puts(book))
@@ -86,7 +86,7 @@ impl<S: Alter> Store<S> {
         // The first loss has a cause: the database answered an error to one of the statements of
         // what this change puts, or to the commit, or an allocation failed. That this isn't
         // reported without one is shown by tests.
-        ensures told { HasCleanDisk (shown_by S.Store self.new) → self.old.lost ≡ false
+        ensures reported { HasCleanDisk (shown_by S.Store self.new) → self.old.lost ≡ false
             → OnErr result ((e : _) × FailsToKeep S.Store book.now change.now
             self.old.connection (shown_by S.Store self.new) e) }
         ensures nothing { IsTrue self.old.lost → IsErr result × (self.new ≡ self.old) }

@@ -2,9 +2,9 @@
 use Rattle.std.proofs.Common.{◌≡◌, [], ◌∷◌, Some, Bor, codes, refl, ap, sym, ne_eqb}
 use Rattle.clap.specs.Words.{Text}
 use Rattle.clap.proofs.OnLiterals.{clap_on_literals}
-use Rattle.desk_words.specs.Commands.{whole}
+use Rattle.desk_words.specs.Subcommands.{whole}
 use Rattle.desk_words.specs.Plain.{IsPlain}
-use Rattle.desk_words.specs.Reading.{NamesAction}
+use Rattle.desk_words.specs.Words.{NamesAction}
 use Rattle.desk_words.specs.declared.action.Action.TheVariants.{Check, New, Session, Translate}
 
 pub new_with : (word : Bor Text) (t : Text) → word.now ≡ t → IsPlain t → NamesAction whole (codes "braildesk" ∷ codes "new" ∷ t ∷ []) (New word)

@@ -16,8 +16,8 @@ use Rattle.clap.specs.declared.builder.value_parser.ValueParser.TheVariants.{Uns
 use Rattle.clap.specs.declared.error.kind.ErrorKind.{ErrorKind}
 use Rattle.clap.proofs.ValueTestLemmas.{accepts-Accepts}
 use Rattle.desk_words.specs.Action.{Asks, Counts, HasDefault, IsAsked, IsWithinLimits, Names}
-use Rattle.desk_words.specs.Commands.{acts, export, on_file, operand, size, translate, whole, within}
-use Rattle.desk_words.specs.Reading.{IsNamedByWords, NameAnAction}
+use Rattle.desk_words.specs.Subcommands.{acts, export, on_file, operand, size, translate, whole, within}
+use Rattle.desk_words.specs.Words.{IsNamedByWords, NameAnAction}
 use Rattle.desk_words.specs.declared.action.Action.{Action}
 use Rattle.desk_words.specs.declared.action.Action.TheVariants.{Check, Export, New, Session, Translate}
 use Rattle.clap.specs.declared.parser.matches.ArgMatches.{ArgMatches}

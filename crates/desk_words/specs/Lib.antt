@@ -1,4 +1,4 @@
-pub mod Commands
+pub mod Subcommands
 pub mod Action
-pub mod Reading
+pub mod Words
 pub mod Plain

@@ -2,7 +2,7 @@
 use Rattle.std.specs.Prelude.{◌≢◌, [], ◌∷◌, codes, slice_index}
 use Rattle.std.specs.Borrow.{Bor}
 use Rattle.clap.specs.Words.{App, Text}
-use Rattle.desk_words.specs.Reading.{NamesAction}
+use Rattle.desk_words.specs.Words.{NamesAction}
 use Rattle.desk_words.specs.declared.action.Action.{Action as ActionTerm}
 
 -- the word doesn't begin with a hyphen

@@ -1,8 +1,8 @@
 //! What the words ask for.
 ghost use Rattle.clap.specs.Words.{first_of, found_of, rows_of};
 ghost use Rattle.desk_words.specs.Action.{Asks, Counts, IsAsked};
-ghost use Rattle.desk_words.specs.Commands.{whole};
-ghost use Rattle.desk_words.specs.Reading.{IsNamedByWords};
+ghost use Rattle.desk_words.specs.Subcommands.{whole};
+ghost use Rattle.desk_words.specs.Words.{IsNamedByWords};
 ghost use Rattle.desk_words.specs.declared.action.Action.{Action as ActionTerm};
 ghost use Rattle.std.specs.Prelude.{MatchOption, codes, option_map, ◌≡◌, ℕ};
 

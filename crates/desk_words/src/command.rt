@@ -1,7 +1,7 @@
 //! The commands that read the words.
 ghost use Rattle.clap.specs.Words.{app_of, rule_of, shape_of};
 ghost use Rattle.clap.specs.declared.builder.command.Command.TheViews.{out-Command};
-ghost use Rattle.desk_words.specs.Commands.{bare, export, on_file, operand, program, size, translate, whole, within};
+ghost use Rattle.desk_words.specs.Subcommands.{bare, export, on_file, operand, program, size, translate, whole, within};
 ghost use Rattle.std.specs.Prelude.{IfOk, [], codes, false, ◌∷◌, ◌≡◌};
 
 use super::help;

@@ -1,7 +1,7 @@
 //! Laws of words.
-ghost use Rattle.desk_words.specs.Commands.{whole};
+ghost use Rattle.desk_words.specs.Subcommands.{whole};
 ghost use Rattle.desk_words.specs.Plain.{IsPlain, NamesWith};
-ghost use Rattle.desk_words.specs.Reading.{NameAnAction};
+ghost use Rattle.desk_words.specs.Words.{NameAnAction};
 ghost use Rattle.desk_words.specs.declared.action.Action.TheVariants.{Check, New, Session, Translate};
 ghost use Rattle.clap.specs.Words.{fault_of};
 ghost use Rattle.std.specs.Borrow.{Bor};

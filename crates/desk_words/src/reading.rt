@@ -1,8 +1,8 @@
 //! What the program makes of its words.
 ghost use Rattle.clap.specs.Walk.{texts};
 ghost use Rattle.clap.specs.Words.{kind_of};
-ghost use Rattle.desk_words.specs.Commands.{whole};
-ghost use Rattle.desk_words.specs.Reading.{IsError, IsReading, IsShownAs};
+ghost use Rattle.desk_words.specs.Subcommands.{whole};
+ghost use Rattle.desk_words.specs.Words.{IsError, IsReading, IsShownAs};
 ghost use Rattle.std.specs.Prelude.{IfOk, [], string_bytes, ◌≢◌};
 
 use super::action::{Action, action_of};

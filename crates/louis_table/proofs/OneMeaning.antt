@@ -90,11 +90,11 @@ one_meaning = one_meaning_in WithNumericMode
 
 -- ---- one fault
 
-told_once : (n c m d : ℕ) → IsReportedNoLater n c m d → IsReportedNoLater m d n c → (n ≡ m) × (c ≡ d)
-told_once n c m d (inl lt) (inl gt) = absurd (omega arith)
-told_once n c m d (inl lt) (inr (e, le)) = absurd (omega arith)
-told_once n c m d (inr (e, le)) (inl gt) = absurd (omega arith)
-told_once n c m d (inr (e, le)) (inr (f, ge)) = (e, omega arith)
+reported_once : (n c m d : ℕ) → IsReportedNoLater n c m d → IsReportedNoLater m d n c → (n ≡ m) × (c ≡ d)
+reported_once n c m d (inl lt) (inl gt) = absurd (omega arith)
+reported_once n c m d (inl lt) (inr (e, le)) = absurd (omega arith)
+reported_once n c m d (inr (e, le)) (inl gt) = absurd (omega arith)
+reported_once n c m d (inr (e, le)) (inr (f, ge)) = (e, omega arith)
 
 -- a rule that lacks a definition does so again
 lacks_again : (es fs : List (ℕ × Entry)) (t u : Meaning) (n : ℕ) (rule : Entry) → es ≡ fs → t ≡ u → Contains es (n, rule) → IsLacking t rule → Contains fs (n, rule) × IsLacking u rule
@@ -105,7 +105,7 @@ one_fault_in profile bytes n c m d (no_text u i j) (no_text v k l) = (i ∙ sym 
 one_fault_in profile bytes n c m d (no_text u i j) (bad_line v h first) = absurd (u v)
 one_fault_in profile bytes n c m d (no_text u i j) (undefined_character v s es t g k rule a l first e) = absurd (u v)
 one_fault_in profile bytes n c m d (bad_line u g least) (no_text v k l) = absurd (v u)
-one_fault_in profile bytes n c m d (bad_line u g least) (bad_line v h first) = told_once n c m d (least m d h) (first n c g)
+one_fault_in profile bytes n c m d (bad_line u g least) (bad_line v h first) = reported_once n c m d (least m d h) (first n c g)
 one_fault_in profile bytes n c m d (bad_line u g least) (undefined_character v s es t h k rule a l first e) = absurd (s n c g)
 one_fault_in profile bytes n c m d (undefined_character u s es t g k rule a l first e) (no_text v i j) = absurd (v u)
 one_fault_in profile bytes n c m d (undefined_character u s es t g k rule a l first e) (bad_line v h least) = absurd (s m d h)
@@ -172,8 +172,8 @@ module _ (bytes rest : List ℕ) (u : IsUtf8 bytes) (e : rest ≡ without_byte_o
 
   pub IsReported-Bad : (n cause : ℕ) → IsReported (map chars (lines_of rest)) n cause → Bad bytes n cause
   IsReported-Bad n cause t =
-      let told : IsReported (text_lines bytes) n cause = subst (λ (ls : List (List ℕ)). IsReported ls n cause) lines_same t in
-      bad_line u told.has told.first
+      let reported : IsReported (text_lines bytes) n cause = subst (λ (ls : List (List ℕ)). IsReported ls n cause) lines_same t in
+      bad_line u reported.has reported.first
 
   pub IsLackingIn-Bad : (n cause : ℕ) → IsLackingIn (map chars (lines_of rest)) n → cause ≡ 7 → Bad bytes n cause
   IsLackingIn-Bad n cause l s = by (subst (λ (ls : List (List ℕ)). IsLackingIn ls n) lines_same l)

@@ -3,7 +3,7 @@ use Rattle.std.proofs.Common.{◌≡◌, ◌≢◌, ℕ, zero, suc, ◌<◌, ◌
 use Rattle.std.specs.Map.{lookup}
 use Rattle.std.proofs.lemmas.Bool.{cases_Bool, eqb-true, eqb-false, ne_eqb}
 use Rattle.std.proofs.lemmas.List.{get_or-set_other, get_or-set_same, length-set, length_push}
-use Rattle.louis_table.specs.Places.{IsPlaceOf, AreIn}
+use Rattle.louis_table.specs.FirstEntries.{IsPlaceOf, AreIn}
 
 -- ---- no entry
 

@@ -178,30 +178,30 @@ module _ (lines : List (List ℕ)) (f : FirstLate lines) where
 
   -- a fault before it is reported first
   tell_before : (n cause : ℕ) → IsReported lines n cause → n ≤ length f.before → IsReportedEarly lines n cause
-  tell_before n cause told le =
+  tell_before n cause reported le =
       record {
-        has = from_last lines f.before (f.line ∷ f.after) f.parts f.early n cause le told.has;
+        has = from_last lines f.before (f.line ∷ f.after) f.parts f.early n cause le reported.has;
         first = λ m other h. first m other h (cases_lt (length f.before) m);
       }
     where
       first : (m other : ℕ) → HasCause WithoutNumericMode lines m other → (length f.before < m) ⊎ (m ≤ length f.before) → IsReportedNoLater n cause m other
       first m other h (inl past) = inl (omega arith)
-      first m other h (inr within) = told.first m other (to_last lines f.before (f.line ∷ f.after) f.parts f.early m other within h)
+      first m other h (inr within) = reported.first m other (to_last lines f.before (f.line ∷ f.after) f.parts f.early m other within h)
 
-  after_told : (n cause : ℕ) → IsReported lines n cause → length f.before < n → (m other : ℕ) → HasCause WithNumericMode lines m other → length f.before < m
-  after_told n cause told past m other h = by (told.first m other h)
+  after_reported : (n cause : ℕ) → IsReported lines n cause → length f.before < n → (m other : ℕ) → HasCause WithNumericMode lines m other → length f.before < m
+  after_reported n cause reported past m other h = by (reported.first m other h)
     where
       by : IsReportedNoLater n cause m other → length f.before < m
       by (inl lt) = omega arith
       by (inr (e, le)) = omega arith
 
-  first_told : (n : ℕ) × (cause : ℕ) × IsReportedEarly lines n cause
-  first_told =
+  first_reported : (n : ℕ) × (cause : ℕ) × IsReportedEarly lines n cause
+  first_reported =
       elim (outcome_from lines [] lines no_meaning [] (Reached-none lines no_meaning [] refl refl)) [
         | inl (t, rules, l) ↦ (length f.before + 1, 1, tell_opcode (λ m other h. absurd (l.is_sound m other h)))
-        | inr (n, c, told) ↦ elim (cases_lt (length f.before) n) [
-          | inl past ↦ (length f.before + 1, 1, tell_opcode (after_told n c told past))
-          | inr le ↦ (n, c, tell_before n c told le)
+        | inr (n, c, reported) ↦ elim (cases_lt (length f.before) n) [
+          | inl past ↦ (length f.before + 1, 1, tell_opcode (after_reported n c reported past))
+          | inr le ↦ (n, c, tell_before n c reported le)
         ]
       ]
 
@@ -252,7 +252,7 @@ some_meaning_without bytes =
           | inl (m, h) ↦ inl (m, early_means bytes early m h)
           | inr (n, c, h) ↦ inr (n, c, early_bad bytes early n c h)
         ]
-        | inr f ↦ let told = first_told (text_lines bytes) f in inr (told.0, told.1, bad_line (IsUtf8-from_is_utf8 bytes t) told.2.has told.2.first)
+        | inr f ↦ let reported = first_reported (text_lines bytes) f in inr (reported.0, reported.1, bad_line (IsUtf8-from_is_utf8 bytes t) reported.2.has reported.2.first)
       ]
       | inr f ↦ inr (line_of_stop bytes, 9, no_text (λ u. true≢false (sym (is_utf8-from_IsUtf8 bytes u) ∙ f)) refl refl)
     ]

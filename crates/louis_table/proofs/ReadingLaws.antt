@@ -167,7 +167,7 @@ module _ (lines before rest : List (List ℕ)) (line : List ℕ) (meaning : Mean
   Reached-fault cause j =
       record {
         has = on_line before line rest r.parts refl (judge-Fault before line meaning rules r.gathered cause j);
-        first = λ m other h. told m other h;
+        first = λ m other h. reported m other h;
       }
     where
       least : (other : ℕ) → IsFault WithNumericMode before line other → cause ≤ other
@@ -181,8 +181,8 @@ module _ (lines before rest : List (List ℕ)) (line : List ℕ) (meaning : Mean
       by m other h (inl e) = inr (sym e, least other (here m other h e))
       by m other h (inr lt) = inl lt
 
-      told : (m other : ℕ) → HasCause WithNumericMode lines m other → IsReportedNoLater (length before + 1) cause m other
-      told m other h =
+      reported : (m other : ℕ) → HasCause WithNumericMode lines m other → IsReportedNoLater (length before + 1) cause m other
+      reported m other h =
           let past : length before < m = r.sound m other h in
           by m other h (elim (cases_lt (length before + 1) m) [ inl lt ↦ inr lt | inr le ↦ inl (omega arith) ])
 

@@ -59,16 +59,16 @@ pub first_fault : (fault : LineFault) (o p : Option (List ℕ)) → ReadsDots ar
 first_fault (line_faults.Bad cause) o p h = (ap (λ (x : Option (List ℕ)). both_of x p) h.0, h.1)
 first_fault line_faults.NoMemory o p h = tt
 
-pub second_fault : (fault : LineFault) (told : Option (List ℕ)) (o p : Option (List ℕ)) → ReadsDots are_many (Ok told) o → ReadsDots are_many (Err fault) p → ReadsDots are_many_of_two (Err fault) (both_of o p)
-second_fault (line_faults.Bad cause) told o p g h = (ap (λ (x : Option (List ℕ)). both_of x p) g.1 ∙ ap (both_of (Some g.0)) h.0, h.1)
-second_fault line_faults.NoMemory told o p g h = tt
+pub second_fault : (fault : LineFault) (reported : Option (List ℕ)) (o p : Option (List ℕ)) → ReadsDots are_many (Ok reported) o → ReadsDots are_many (Err fault) p → ReadsDots are_many_of_two (Err fault) (both_of o p)
+second_fault (line_faults.Bad cause) reported o p g h = (ap (λ (x : Option (List ℕ)). both_of x p) g.1 ∙ ap (both_of (Some g.0)) h.0, h.1)
+second_fault line_faults.NoMemory reported o p g h = tt
 
 pub neither : (b c : Bool) → b ≡ false → c ≡ false → b || c ≡ false
 neither true c e f = e
 neither false c e f = f
 
-pub both_told : (a b o p : Option (List ℕ)) → ReadsDots are_many (Ok a) o → ReadsDots are_many (Ok b) p → ReadsDots are_many_of_two (Ok (option_zip a b)) (both_of o p)
-both_told a b o p (upper, e, g) (lower, f, h) =
+pub both_reported : (a b o p : Option (List ℕ)) → ReadsDots are_many (Ok a) o → ReadsDots are_many (Ok b) p → ReadsDots are_many_of_two (Ok (option_zip a b)) (both_of o p)
+both_reported a b o p (upper, e, g) (lower, f, h) =
     ((upper, lower), ap (λ (x : Option (List ℕ)). both_of x p) e ∙ ap (both_of (Some upper)) f, fits a b g h)
   where
     fits : (a b : Option (List ℕ)) → Fits are_many a upper → Fits are_many b lower → Fits are_many_of_two (option_zip a b) (upper, lower)
@@ -90,11 +90,11 @@ pub rule_fault : (dots : List ℕ) (fault : LineFault) → bytes_eq dots (codes 
 rule_fault dots (line_faults.Bad cause) f h = (rule_in-cells dots f ∙ ap (option_map Some) h.0, h.1)
 rule_fault dots line_faults.NoMemory f h = tt
 
-pub rule_told : (dots told : List ℕ) → bytes_eq dots (codes "=") ≡ false → ReadsDots are_many (Ok (Some told)) (cells_in dots) → ReadsDots are_many_written (Ok (Some (Some told))) (rule_in dots)
-rule_told dots told f (cells, e, h) = (Some cells, rule_in-cells dots f ∙ ap (option_map Some) e, (ap Some h.0, h.1))
+pub rule_reported : (dots reported : List ℕ) → bytes_eq dots (codes "=") ≡ false → ReadsDots are_many (Ok (Some reported)) (cells_in dots) → ReadsDots are_many_written (Ok (Some (Some reported))) (rule_in dots)
+rule_reported dots reported f (cells, e, h) = (Some cells, rule_in-cells dots f ∙ ap (option_map Some) e, (ap Some h.0, h.1))
 
-pub rule_untold : (dots : List ℕ) → bytes_eq dots (codes "=") ≡ false → ReadsDots are_many (Ok None) (cells_in dots) → ReadsDots are_many_written (Ok None) (rule_in dots)
-rule_untold dots f (cells, e, h) = (Some cells, rule_in-cells dots f ∙ ap (option_map Some) e, h)
+pub rule_unreported : (dots : List ℕ) → bytes_eq dots (codes "=") ≡ false → ReadsDots are_many (Ok None) (cells_in dots) → ReadsDots are_many_written (Ok None) (rule_in dots)
+rule_unreported dots f (cells, e, h) = (Some cells, rule_in-cells dots f ∙ ap (option_map Some) e, h)
 
 -- ---- two operands
 
@@ -252,12 +252,12 @@ IsVerdict-TakesLine old new before line line_faults.NoMemory h = tt
 -- ---- what a missing value is reported for
 
 pub is_there : {T E : Type 0} (o : Option T) (e : E) {r : Result T E} {x : T} → r ≡ ok_or o e → r ≡ Ok x → o ≡ Some x
-is_there None e is told = absurd (let same = sym is ∙ told in cc)
-is_there (Some y) e is told = let same = sym is ∙ told in cc
+is_there None e is reported = absurd (let same = sym is ∙ reported in cc)
+is_there (Some y) e is reported = let same = sym is ∙ reported in cc
 
 pub is_missing : {T : Type 0} (o : Option T) (fault : LineFault) {r : Result T LineFault} {f : LineFault} (exit : Result LineEntry LineFault) (verdict : Result (Option Entry) ℕ)
-    → r ≡ ok_or o fault → r ≡ Err f → IsErrAnd exit (λ told. told ≡ f) → (o ≡ None → IsVerdict (Err fault) verdict) → IsVerdict exit verdict
-is_missing None fault (Err told) verdict is was same lacks = subst (λ e. IsVerdict (Err e) verdict) (let told-is = sym is ∙ was in cc) (lacks refl)
+    → r ≡ ok_or o fault → r ≡ Err f → IsErrAnd exit (λ reported. reported ≡ f) → (o ≡ None → IsVerdict (Err fault) verdict) → IsVerdict exit verdict
+is_missing None fault (Err reported) verdict is was same lacks = subst (λ e. IsVerdict (Err e) verdict) (let reported-is = sym is ∙ was in cc) (lacks refl)
 is_missing (Some x) fault exit verdict is was same lacks = absurd (let other = sym is ∙ was in cc)
 is_missing None fault (Ok x) verdict is was same lacks = absurd same
 

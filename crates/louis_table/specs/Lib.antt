@@ -7,5 +7,5 @@ pub mod Meaning
 pub mod Table
 pub mod ReportedFault
 pub mod Steps
-pub mod Places
+pub mod FirstEntries
 pub mod SuppliedTable

@@ -19,7 +19,7 @@ pub struct CharMap<V> {
 
 impl<V> Model for CharMap<V> {
     ghost use Rattle.std.specs.Prelude.{List, ℕ};
-    ghost use Rattle.louis_table.specs.Places.{AreIn};
+    ghost use Rattle.louis_table.specs.FirstEntries.{AreIn};
 
     ghost Value = { List (ℕ × V) };
 

@@ -47,7 +47,7 @@ use Rattle.desk_model.specs.Print.{print_of, with_entry}
 use Rattle.desk_model.specs.Named.{paragraph_before}
 use Rattle.desk_model.specs.Refusals.{IsAccepted}
 use Rattle.desk_model.specs.Sound.{IsSound, IsSoundMark}
-use Rattle.desk_model.specs.Step.{Makes, new_paragraph, next_id, next_mark, next_with_marks, next_with_paragraphs, next_with_table, with_marks_moved, with_paragraph, with_change}
+use Rattle.desk_model.specs.NextBook.{Makes, new_paragraph, next_id, next_mark, next_with_marks, next_with_paragraphs, next_with_table, with_marks_moved, with_paragraph, with_change}
 use Rattle.desk_model.proofs.Commands.Accepted.{named_paragraph}
 use Rattle.desk_model.proofs.Lists.Members.{Contains-here, Contains-behind, Contains-map}
 use Rattle.desk_model.proofs.Books.ParagraphLists.{ids_of, AreApart, found, AreApart-permutation, id-found, Contains-found, found-own, IsPermutation-with_paragraph}

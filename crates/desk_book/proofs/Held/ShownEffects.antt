@@ -7,7 +7,7 @@ use Rattle.desk_model.specs.Book.{Book}
 use Rattle.desk_book.specs.Changes.{IsEffect}
 use Rattle.desk_memory.specs.Held.{HeldParagraphs, HeldTables, IsHeld, book_held}
 use Rattle.desk_model.specs.Refusals.{IsAccepted}
-use Rattle.desk_model.specs.Step.{Makes}
+use Rattle.desk_model.specs.NextBook.{Makes}
 
 -- it is one on the book that is held
 pub as_held : (version : ℕ) (tables : HeldTables) (paragraphs : HeldParagraphs) (marks : List HeldMark) (book : Book)

@@ -16,14 +16,13 @@ use Rattle.desk_memory.specs.Histories.{TookFrom, entry_held}
 use Rattle.desk_model.specs.Judging.{Passes}
 use Rattle.desk_model.specs.Limits.{most_note, most_print}
 use Rattle.desk_model.specs.Marks.{mark_moved, mark_moved_by}
-use Rattle.desk_model.specs.Name.{IsProofreaderName}
+use Rattle.desk_model.specs.ValidNames.{IsProofreaderName}
 use Rattle.desk_book.specs.Plans.{IsPlanned, IsTurnedDown}
 use Rattle.desk_model.specs.Print.{print_of, with_entry, with_replacement}
 use Rattle.desk_model.specs.Refusals.{IsLongerThan}
 use Rattle.desk_memory.specs.Display.{IsShown}
-use Rattle.desk_model.specs.Step.{next_with_entry, replacement_by}
-use Rattle.desk_model.specs.NormalForm.{IsUnbarred, normal_form}
-use Rattle.desk_model.specs.Characters.{AreCharacters}
+use Rattle.desk_model.specs.NextBook.{next_with_entry, replacement_by}
+use Rattle.desk_model.specs.BookTexts.{AreCharacters, IsUnbarred, normal_form}
 use Rattle.desk_model.specs.Ranks.{bad_text_rank, rank}
 use Rattle.desk_model.proofs.Lists.Options.{IsSomeAnd-value}
 use Rattle.desk_book.proofs.Plans.EntryPlanned.{ChangesPrint-entered}
@@ -72,8 +71,8 @@ module _ (book : Book) (id start count : ℕ) (text who : List ℕ) where
               let sum = length-replaced (print_of p) r (subst (λ (t : List ℕ). start + count ≤ length t) shown.print span) in
               omega (arith, a, b)
 
-          pub no_memory_here : (told : Refusal) → told ≡ NoMemory → IsTurnedDown book command told
-          no_memory_here told is = no_memory book command told (rank TooLong) refl spanned is
+          pub no_memory_here : (reported : Refusal) → reported ≡ NoMemory → IsTurnedDown book command reported
+          no_memory_here reported is = no_memory book command reported (rank TooLong) refl spanned is
 
           module _ (print : List ℕ) (print_is : print ≡ with_replacement (print_of p) r) (short : length (normal_form text) ≤ most_print) where
             abbrev replaced : Paragraph → Option (List ℕ)
@@ -85,15 +84,15 @@ module _ (book : Book) (id start count : ℕ) (text who : List ℕ) where
             no_note : ¬ IsLongerThan most_note None
             no_note l = l
 
-            pub halted_here : (told : Refusal) → HaltsEntry book held (length print) told → IsTurnedDown book command told
-            halted_here told =
+            pub halted_here : (reported : Refusal) → HaltsEntry book held (length print) reported → IsTurnedDown book command reported
+            halted_here reported =
                 halted book command id p shown.found held shown.held_is print shown.translated.text meaning shown.translated.found shown.translated.means refl replaced refl made
-                (not_longer most_print (Some (normal_form text)) (normal_form text) refl short) no_note spanned refl refl refl refl told
+                (not_longer most_print (Some (normal_form text)) (normal_form text) refl short) no_note spanned refl refl refl refl reported
 
-            pub undefined_here : TakesEntry book held (length print) → (told : Refusal) → HaltsPrint meaning print told → IsTurnedDown book command told
-            undefined_here takes told =
+            pub undefined_here : TakesEntry book held (length print) → (reported : Refusal) → HaltsPrint meaning print reported → IsTurnedDown book command reported
+            undefined_here takes reported =
                 undefined book command id p shown.found held shown.held_is print shown.translated.text meaning shown.translated.found shown.translated.means refl replaced refl made
-                (not_longer most_print (Some (normal_form text)) (normal_form text) refl short) no_note spanned refl refl refl refl (rank TooLong) refl (lit≤ tt) takes told
+                (not_longer most_print (Some (normal_form text)) (normal_form text) refl short) no_note spanned refl refl refl refl (rank TooLong) refl (lit≤ tt) takes reported
 
             pub planned_here : (new : NewEntry) (effect : Effect) → new.print.items ≡ print → IsEntered book id held meaning new effect → entry_held new.entry ≡ Corrects r who → TookFrom (print_of p) new.entry
                 → new.start ≡ start → new.removed ≡ count → new.added ≡ length (normal_form text) → AreCharacters (normal_form text) × AreCharacters who → IsPlanned book command effect

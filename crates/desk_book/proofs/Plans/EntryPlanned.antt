@@ -15,7 +15,7 @@ use Rattle.desk_model.specs.Marks.{mark_moved_by}
 use Rattle.desk_model.specs.Print.{print_of, with_entry}
 use Rattle.desk_memory.specs.Room.{Suffices}
 use Rattle.desk_memory.specs.Display.{IsShown}
-use Rattle.desk_model.specs.Step.{next_with_entry}
+use Rattle.desk_model.specs.NextBook.{next_with_entry}
 
 pub ChangesPrint-entered : (book : Book) (id : ℕ) (held : HeldParagraph) (meaning : Meaning) (new : NewEntry) (effect : Effect) (shown : IsShown book id held meaning) (is : IsEntered book id held meaning new effect) (e : Entry)
     → entry_held new.entry ≡ e → new.print.items ≡ print_of (with_entry e shown.paragraph) → TookFrom (print_of shown.paragraph) new.entry → new.start + new.removed ≤ most_print → new.added ≤ most_print

@@ -67,22 +67,22 @@ module _ (book : Book) (command : Command) (id : ℕ) (p : Paragraph) (there : p
   left : length print ≤ most_print → length held.history < most_entries → book.version < most_version → Passes book None command undefined_rank
   left h room version = to_rank book command bad_table_rank undefined_rank to_print (past_version book command (rank (Full Marks)) (few h room) to_version version)
 
-  pub halted : (told : Refusal) → HaltsEntry book held (length print) told → IsTurnedDown book command told
-  halted told (inl (is, long)) = too_long book command told print passes made long is
-  halted told (inr (inl (is, h, full))) =
-      turned_down book command (rank (Full Entries)) (Full Entries) told (short h) refl (IsSomeAnd-of (λ (n : ℕ). IsSomeAnd (paragraph_of book n) at_limit) grows
+  pub halted : (reported : Refusal) → HaltsEntry book held (length print) reported → IsTurnedDown book command reported
+  halted reported (inl (is, long)) = too_long book command reported print passes made long is
+  halted reported (inr (inl (is, h, full))) =
+      turned_down book command (rank (Full Entries)) (Full Entries) reported (short h) refl (IsSomeAnd-of (λ (n : ℕ). IsSomeAnd (paragraph_of book n) at_limit) grows
       (IsSomeAnd-of at_limit there (omega (arith, count, full)))) is
-  halted told (inr (inr (is, h, room, full))) = full_version book command (rank (Full Marks)) told (few h room) to_version full is
+  halted reported (inr (inr (is, h, room, full))) = full_version book command (rank (Full Marks)) reported (few h room) to_version full is
 
   module _ (n : ℕ) (asks : (named_by command).rank_after_asking ≡ Some n) (soon : n ≤ undefined_rank) (takes : TakesEntry book held (length print)) where
-    pub lacking : (told : Refusal) → told ≡ NoMemory → IsTurnedDown book command told
-    lacking told is = no_memory book command told n asks (λ other h. let after = left takes.short takes.few takes.left other h in omega arith) is
+    pub lacking : (reported : Refusal) → reported ≡ NoMemory → IsTurnedDown book command reported
+    lacking reported is = no_memory book command reported n asks (λ other h. let after = left takes.short takes.few takes.left other h in omega arith) is
 
-    pub undefined : (told : Refusal) → HaltsPrint meaning print told → IsTurnedDown book command told
-    undefined told (inl (place, is, first)) =
-        turned_down book command undefined_rank (Undefined place) told (left takes.short takes.few takes.left) refl
+    pub undefined : (reported : Refusal) → HaltsPrint meaning print reported → IsTurnedDown book command reported
+    undefined reported (inl (place, is, first)) =
+        turned_down book command undefined_rank (Undefined place) reported (left takes.short takes.few takes.left) refl
         (record { print = print; name = p.table; print_is = shown; text = source; meaning = meaning; found = found; means = means; first = first }) is
-    undefined told (inr is) = lacking told is
+    undefined reported (inr is) = lacking reported is
 
   pub accepts_entry : length print ≤ most_print → length held.history < most_entries → book.version < most_version → AreDefined meaning print → IsAccepted book None command
   accepts_entry h room version defined =

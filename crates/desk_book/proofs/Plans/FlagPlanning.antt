@@ -11,7 +11,7 @@ use Rattle.desk_model.specs.Limits.{most_version}
 use Rattle.desk_model.specs.Loans.{GetsFlags}
 use Rattle.desk_model.specs.Named.{HasCharacters}
 use Rattle.desk_book.specs.Plans.{IsHeldFor, IsPlanned}
-use Rattle.desk_model.specs.Step.{Makes, next_with_paragraphs, with_change}
+use Rattle.desk_model.specs.NextBook.{Makes, next_with_paragraphs, with_change}
 use Rattle.desk_model.specs.Ranks.{bad_table_rank, rank}
 use Rattle.desk_model.specs.declared.refusal.Refusal.TheVariants.{Full, NoMemory}
 use Rattle.desk_model.specs.declared.refusal.Limit.TheVariants.{Version}

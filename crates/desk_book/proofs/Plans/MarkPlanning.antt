@@ -18,7 +18,7 @@ use Rattle.desk_book.specs.Plans.{IsTurnedDown}
 use Rattle.desk_model.specs.Print.{print_of}
 use Rattle.desk_model.specs.Refusals.{IsAccepted}
 use Rattle.desk_memory.specs.Display.{IsShown}
-use Rattle.desk_model.specs.NormalForm.{IsUnbarred}
+use Rattle.desk_model.specs.BookTexts.{IsUnbarred}
 use Rattle.desk_model.specs.Translation.{AreMarked, LacksCells}
 use Rattle.desk_model.specs.Ranks.{bad_table_rank, bad_text_rank, rank}
 use Rattle.desk_model.proofs.Commands.Ranks.{accepted_after, passes_to, past_lengths, past_text, past_version, to_rank}
@@ -66,8 +66,8 @@ module _ (book : Book) (id cell count : ℕ) (note : List ℕ) where
         spanned : Passes book None command (rank TooLong)
         spanned = Passes-past book None command BadSpan (rank TooLong) refl fit not_lacking
 
-        pub long_note : (told : Refusal) → (told ≡ TooLong) × (most_note < length note) → IsTurnedDown book command told
-        long_note told (is, long) = turned_down book command (rank TooLong) TooLong told spanned refl (inr (inr long)) is
+        pub long_note : (reported : Refusal) → (reported ≡ TooLong) × (most_note < length note) → IsTurnedDown book command reported
+        long_note reported (is, long) = turned_down book command (rank TooLong) TooLong reported spanned refl (inr (inr long)) is
 
         module _ (short : length note ≤ most_note) where
           shortened : Passes book None command (rank (Full Marks))
@@ -75,18 +75,18 @@ module _ (book : Book) (id cell count : ℕ) (note : List ℕ) where
               to_rank book command (rank (Full Tables)) (rank (Full Marks)) refl
               (past_lengths book command spanned (λ l. l) (λ l. l) (λ long. omega arith))
 
-          pub full_marks : (told : Refusal) → (told ≡ Full Marks) × (most_marks ≤ length book.marks) → IsTurnedDown book command told
-          full_marks told (is, full) = turned_down book command (rank (Full Marks)) (Full Marks) told shortened refl (refl, full) is
+          pub full_marks : (reported : Refusal) → (reported ≡ Full Marks) × (most_marks ≤ length book.marks) → IsTurnedDown book command reported
+          full_marks reported (is, full) = turned_down book command (rank (Full Marks)) (Full Marks) reported shortened refl (refl, full) is
 
           module _ (room : length book.marks < most_marks) where
             roomy : Passes book None command (rank (Full Version))
             roomy = Passes-past book None command (Full Marks) (rank (Full Version)) refl shortened (λ f. let full = f.1 in omega arith)
 
-            pub full_of_versions : (told : Refusal) → (told ≡ Full Version) × (most_version ≤ book.version) → IsTurnedDown book command told
-            full_of_versions told (is, full) = full_version book command (rank (Full Version)) told roomy refl full is
+            pub full_of_versions : (reported : Refusal) → (reported ≡ Full Version) × (most_version ≤ book.version) → IsTurnedDown book command reported
+            full_of_versions reported (is, full) = full_version book command (rank (Full Version)) reported roomy refl full is
 
             pub accepted_mark : book.version < most_version → IsAccepted book None command
             accepted_mark left = accepted_after book command bad_table_rank (past_version book command (rank (Full Version)) roomy refl left) refl
 
-            pub no_memory_here : book.version < most_version → (told : Refusal) → told ≡ NoMemory → IsTurnedDown book command told
-            no_memory_here left told is = no_memory book command told (rank NoMemory) refl (Passes-accepted book None command (accepted_mark left) (rank NoMemory)) is
+            pub no_memory_here : book.version < most_version → (reported : Refusal) → reported ≡ NoMemory → IsTurnedDown book command reported
+            no_memory_here left reported is = no_memory book command reported (rank NoMemory) refl (Passes-accepted book None command (accepted_mark left) (rank NoMemory)) is

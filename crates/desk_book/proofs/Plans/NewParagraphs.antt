@@ -7,7 +7,7 @@ use Rattle.desk_book.specs.Changes.{IsHeldTyped}
 use Rattle.desk_memory.specs.Braille.{AreCellsOf}
 use Rattle.desk_memory.specs.Histories.{HaveTaken}
 use Rattle.desk_book.specs.Plans.{IsNewParagraph, IsTableFor}
-use Rattle.desk_model.specs.NormalForm.{normal_form}
+use Rattle.desk_model.specs.BookTexts.{normal_form}
 
 pub IsHeldTyped-new : (book : Book) (name text : List ℕ) (table : BookTable) (held : HeldParagraph) → IsTableFor book name table → IsNewParagraph name (normal_form text) table.rules held → IsHeldTyped book held.table text held
 IsHeldTyped-new book name text table held found new = record {

@@ -26,9 +26,9 @@ use Rattle.std.proofs.lemmas.Option.{same_Some}
 
 -- ---- the exit of a `?`
 
-pub exit : (answer : Result Effect Refusal) (P : Refusal → Type 0) (told : Refusal) → IsErrAnd answer (λ other. other ≡ told) → P told → IfErr answer P
-exit (Ok effect) P told is p = tt
-exit (Err other) P told is p = subst P (sym is) p
+pub exit : (answer : Result Effect Refusal) (P : Refusal → Type 0) (reported : Refusal) → IsErrAnd answer (λ other. other ≡ reported) → P reported → IfErr answer P
+exit (Ok effect) P reported is p = tt
+exit (Err other) P reported is p = subst P (sym is) p
 
 -- ---- paragraphs that are named
 
@@ -46,23 +46,23 @@ module _ (book : Book) where
 -- ---- ranks
 
 module _ (book : Book) (command : Command) where
-  pub turned_down : (n : ℕ) (refusal told : Refusal) → Passes book None command n → rank refusal ≡ n → Holds book None command refusal → told ≡ refusal → IsTurnedDown book command told
-  turned_down n refusal told passes at holds same = subst (IsTurnedDown book command) (sym same) (inl (IsRefused-passes book None command n refusal passes at holds))
+  pub turned_down : (n : ℕ) (refusal reported : Refusal) → Passes book None command n → rank refusal ≡ n → Holds book None command refusal → reported ≡ refusal → IsTurnedDown book command reported
+  turned_down n refusal reported passes at holds same = subst (IsTurnedDown book command) (sym same) (inl (IsRefused-passes book None command n refusal passes at holds))
 
-  pub no_memory : (told : Refusal) (n : ℕ) → (named_by command).rank_after_asking ≡ Some n → Passes book None command n → told ≡ NoMemory → IsTurnedDown book command told
-  no_memory told n asks passes is = inr (is, record { from = n; asks = asks; passes = passes })
+  pub no_memory : (reported : Refusal) (n : ℕ) → (named_by command).rank_after_asking ≡ Some n → Passes book None command n → reported ≡ NoMemory → IsTurnedDown book command reported
+  no_memory reported n asks passes is = inr (is, record { from = n; asks = asks; passes = passes })
 
-  pub no_paragraph : (told : Refusal) → Passes book None command (rank NoParagraph) → AreNotAllThere book (named_by command).paragraphs_named → told ≡ NoParagraph → IsTurnedDown book command told
-  no_paragraph told passes lacks = turned_down (rank NoParagraph) NoParagraph told passes refl lacks
+  pub no_paragraph : (reported : Refusal) → Passes book None command (rank NoParagraph) → AreNotAllThere book (named_by command).paragraphs_named → reported ≡ NoParagraph → IsTurnedDown book command reported
+  no_paragraph reported passes lacks = turned_down (rank NoParagraph) NoParagraph reported passes refl lacks
 
   pub past_paragraphs : Passes book None command (rank NoParagraph) → AreThere book (named_by command).paragraphs_named → Passes book None command (rank NoTable)
   past_paragraphs passes there = Passes-past book None command NoParagraph (rank NoTable) refl passes (λ lacks. let found = there lacks.0 lacks.1 in let missing = lacks.2 in cc (ap is_some missing))
 
-  pub too_long : (told : Refusal) (print : List ℕ) → Passes book None command (rank TooLong) → new_print book command ≡ Some print → most_print < length print → told ≡ TooLong → IsTurnedDown book command told
-  too_long told print passes made long = turned_down (rank TooLong) TooLong told passes refl (inr (inl (IsSomeAnd-of (λ (t : List ℕ). most_print < length t) made long)))
+  pub too_long : (reported : Refusal) (print : List ℕ) → Passes book None command (rank TooLong) → new_print book command ≡ Some print → most_print < length print → reported ≡ TooLong → IsTurnedDown book command reported
+  too_long reported print passes made long = turned_down (rank TooLong) TooLong reported passes refl (inr (inl (IsSomeAnd-of (λ (t : List ℕ). most_print < length t) made long)))
 
-  pub full_version : (n : ℕ) (told : Refusal) → Passes book None command n → skips command n (rank (Full Version)) ≡ true → most_version ≤ book.version → told ≡ Full Version → IsTurnedDown book command told
-  full_version n told passes skip full = turned_down (rank (Full Version)) (Full Version) told (Passes-skip book None command n (rank (Full Version)) skip passes) refl full
+  pub full_version : (n : ℕ) (reported : Refusal) → Passes book None command n → skips command n (rank (Full Version)) ≡ true → most_version ≤ book.version → reported ≡ Full Version → IsTurnedDown book command reported
+  full_version n reported passes skip full = turned_down (rank (Full Version)) (Full Version) reported (Passes-skip book None command n (rank (Full Version)) skip passes) refl full
 
   -- ---- a print by a table
 

@@ -13,7 +13,7 @@ use Rattle.desk_model.specs.declared.refusal.Refusal.TheVariants.{BadName, Full,
 use Rattle.desk_model.specs.Book.{Book, text_of}
 use Rattle.desk_model.specs.Judging.{Passes}
 use Rattle.desk_model.specs.Limits.{most_tables}
-use Rattle.desk_model.specs.Name.{IsTableName}
+use Rattle.desk_model.specs.ValidNames.{IsTableName}
 use Rattle.desk_model.specs.Refusals.{DefinesUser, IsAccepted, IsFirstUser, IsUntranslatable}
 use Rattle.desk_book.specs.Plans.{IsTurnedDown}
 use Rattle.desk_model.specs.Sound.{IsSound}
@@ -31,8 +31,8 @@ unused book name meaning sound none k d lt uses =
     absurd (cc (ap (text_of book) uses))
 
 module _ (book : Book) (name text : List ℕ) where
-  pub bad_name : (told : Refusal) → (told ≡ BadName) × (¬ IsTableName name) → IsTurnedDown book (Table name text) told
-  bad_name told (is, bad) = turned_down book (Table name text) (rank BadName) BadName told (passes_to book (Table name text) (rank BadName) refl) refl bad is
+  pub bad_name : (reported : Refusal) → (reported ≡ BadName) × (¬ IsTableName name) → IsTurnedDown book (Table name text) reported
+  bad_name reported (is, bad) = turned_down book (Table name text) (rank BadName) BadName reported (passes_to book (Table name text) (rank BadName) refl) refl bad is
 
   module _ (named : IsTableName name) where
     pub past_name : Passes book None (Table name text) (rank (Full Tables))
@@ -46,13 +46,13 @@ module _ (book : Book) (name text : List ℕ) where
         Passes-past book None (Table name text) (Full Tables) (rank (Full Paragraphs)) refl past_name
         (λ f. let none = ap is_some f.0 in cc)
 
-  bad_table : (told : Refusal) (fault : TableFault) → Passes book None (Table name text) bad_table_rank → told ≡ BadTable fault → Bad text fault.line fault.cause → IsTurnedDown book (Table name text) told
-  bad_table told fault passes is bad = turned_down book (Table name text) bad_table_rank (BadTable fault) told passes refl bad is
+  bad_table : (reported : Refusal) (fault : TableFault) → Passes book None (Table name text) bad_table_rank → reported ≡ BadTable fault → Bad text fault.line fault.cause → IsTurnedDown book (Table name text) reported
+  bad_table reported fault passes is bad = turned_down book (Table name text) bad_table_rank (BadTable fault) reported passes refl bad is
 
   -- what reading the text may answer
-  pub unread : (told : Refusal) → Passes book None (Table name text) bad_table_rank → ((fault : TableFault) × (told ≡ BadTable fault) × Bad text fault.line fault.cause) ⊎ (told ≡ NoMemory) → IsTurnedDown book (Table name text) told
-  unread told passes (inl (fault, is, bad)) = bad_table told fault passes is bad
-  unread told passes (inr is) = no_memory book (Table name text) told bad_table_rank refl passes is
+  pub unread : (reported : Refusal) → Passes book None (Table name text) bad_table_rank → ((fault : TableFault) × (reported ≡ BadTable fault) × Bad text fault.line fault.cause) ⊎ (reported ≡ NoMemory) → IsTurnedDown book (Table name text) reported
+  unread reported passes (inl (fault, is, bad)) = bad_table reported fault passes is bad
+  unread reported passes (inr is) = no_memory book (Table name text) reported bad_table_rank refl passes is
 
   module _ (meaning : Meaning) (means : Means text meaning) where
     pub past_reading : Passes book None (Table name text) bad_table_rank → Passes book None (Table name text) untranslatable_rank
@@ -60,9 +60,9 @@ module _ (book : Book) (name text : List ℕ) where
         Passes-past book None (Table name text) (BadTable (record { line = 0; cause = 0 })) untranslatable_rank refl passes
         (λ fault bad. means_or_bad text meaning fault.line fault.cause means bad)
 
-    pub untranslatable : (told : Refusal) (id place : ℕ) → Passes book None (Table name text) untranslatable_rank → told ≡ Untranslatable id place → IsFirstUser meaning name book.paragraphs id place → IsTurnedDown book (Table name text) told
-    untranslatable told id place passes is user =
-        turned_down book (Table name text) untranslatable_rank (Untranslatable id place) told passes refl
+    pub untranslatable : (reported : Refusal) (id place : ℕ) → Passes book None (Table name text) untranslatable_rank → reported ≡ Untranslatable id place → IsFirstUser meaning name book.paragraphs id place → IsTurnedDown book (Table name text) reported
+    untranslatable reported id place passes is user =
+        turned_down book (Table name text) untranslatable_rank (Untranslatable id place) reported passes refl
         (record { name = name; text = text; given = refl; meaning = meaning; means = means; user = user }) is
 
     pub past_users : Passes book None (Table name text) untranslatable_rank → All (DefinesUser meaning name) book.paragraphs → IsAccepted book None (Table name text)

@@ -25,7 +25,7 @@ use Rattle.desk_model.specs.Print.{corrected_print, newest, print_of, print_undo
 use Rattle.desk_model.specs.Refusals.{IsLongerThan}
 use Rattle.desk_memory.specs.Display.{IsShown}
 use Rattle.desk_model.specs.Sound.{AreSoundEntries}
-use Rattle.desk_model.specs.Step.{next_with_entry}
+use Rattle.desk_model.specs.NextBook.{next_with_entry}
 use Rattle.desk_model.specs.Ranks.{rank, undefined_rank}
 use Rattle.desk_model.proofs.Lists.Options.{IsSomeAnd-value}
 use Rattle.desk_book.proofs.Plans.EntryPlanned.{ChangesPrint-entered}
@@ -107,17 +107,17 @@ module _ (book : Book) (id : ℕ) where
         made : print_undone p ≡ Some print
         made = undone ∙ ap Some (sym print_is)
 
-        pub halted_here : (told : Refusal) → HaltsEntry book held (length print) told → IsTurnedDown book command told
-        halted_here told =
-            halted book command id p shown.found held shown.held_is print shown.translated.text meaning shown.translated.found shown.translated.means refl print_undone refl made no_text no_note passed refl refl refl refl told
+        pub halted_here : (reported : Refusal) → HaltsEntry book held (length print) reported → IsTurnedDown book command reported
+        halted_here reported =
+            halted book command id p shown.found held shown.held_is print shown.translated.text meaning shown.translated.found shown.translated.means refl print_undone refl made no_text no_note passed refl refl refl refl reported
 
-        pub no_memory_here : TakesEntry book held (length print) → (told : Refusal) → told ≡ NoMemory → IsTurnedDown book command told
-        no_memory_here takes told =
-            lacking book command id p shown.found held shown.held_is print shown.translated.text meaning shown.translated.found shown.translated.means refl print_undone refl made no_text no_note passed refl refl refl refl undefined_rank refl (lit≤ tt) takes told
+        pub no_memory_here : TakesEntry book held (length print) → (reported : Refusal) → reported ≡ NoMemory → IsTurnedDown book command reported
+        no_memory_here takes reported =
+            lacking book command id p shown.found held shown.held_is print shown.translated.text meaning shown.translated.found shown.translated.means refl print_undone refl made no_text no_note passed refl refl refl refl undefined_rank refl (lit≤ tt) takes reported
 
-        pub undefined_here : TakesEntry book held (length print) → (told : Refusal) → HaltsPrint meaning print told → IsTurnedDown book command told
-        undefined_here takes told =
-            undefined book command id p shown.found held shown.held_is print shown.translated.text meaning shown.translated.found shown.translated.means refl print_undone refl made no_text no_note passed refl refl refl refl undefined_rank refl (lit≤ tt) takes told
+        pub undefined_here : TakesEntry book held (length print) → (reported : Refusal) → HaltsPrint meaning print reported → IsTurnedDown book command reported
+        undefined_here takes reported =
+            undefined book command id p shown.found held shown.held_is print shown.translated.text meaning shown.translated.found shown.translated.means refl print_undone refl made no_text no_note passed refl refl refl refl undefined_rank refl (lit≤ tt) takes reported
 
         pub planned_here : (new : NewEntry) (effect : Effect) → new.print.items ≡ print → IsEntered book id held meaning new effect → new.entry ≡ HeldUndoes number
             → new.start ≡ c.start → new.removed ≡ length c.text → new.added ≡ length c.taken → IsPlanned book command effect

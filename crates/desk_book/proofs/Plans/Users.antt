@@ -51,7 +51,7 @@ module _ (meaning : Meaning) (name : List ℕ) where
     after = ps;
     parts = let same : q ≡ p = cc in ap (λ (r : Paragraph). r ∷ ps) same;
     uses = uses;
-    told = refl;
+    reported = refl;
     first = first;
     others = All-nil (DefinesUser meaning name);
   }

@@ -25,7 +25,7 @@ use Rattle.desk_memory.specs.Held.{mark_held}
 use Rattle.desk_model.specs.ParagraphMarks.{marks_on}
 use Rattle.desk_model.specs.Named.{named_by}
 use Rattle.desk_model.specs.Sound.{IsSound}
-use Rattle.desk_model.specs.Step.{next_id, next_mark}
+use Rattle.desk_model.specs.NextBook.{next_id, next_mark}
 use Rattle.desk_model.proofs.Lists.Members.{Contains-behind, Contains-here}
 use Rattle.desk_book.proofs.RowPuts.PutReplacement.{RenewsFrom, renews-all, renews-here, renews-next}
 use Rattle.desk_book.proofs.Held.Settled.{Does-carried}

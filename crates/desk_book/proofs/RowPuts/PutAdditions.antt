@@ -19,7 +19,7 @@ use Rattle.desk_parts.specs.Puts.{PutRow, put_by_key}
 use Rattle.desk_parts.specs.Rows.{Mark as MarkRow}
 use Rattle.desk_model.specs.Shows.{mark_row_of}
 use Rattle.desk_model.specs.Sound.{IsSound, IsSoundMark}
-use Rattle.desk_model.specs.Step.{next_mark, next_with_marks}
+use Rattle.desk_model.specs.NextBook.{next_mark, next_with_marks}
 use Rattle.desk_model.proofs.Rows.BookRows.{encoded-text, spelled-encoded}
 use Rattle.desk_memory.proofs.Callers.{IsWithin-sound}
 use Rattle.desk_model.proofs.Lists.Permutations.{IsPermutation-filter}

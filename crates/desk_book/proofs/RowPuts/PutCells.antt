@@ -19,9 +19,9 @@ use Rattle.desk_parts.specs.Puts.{PutRow, put_by_key}
 use Rattle.desk_parts.specs.Rows.{ParaCells, Para}
 use Rattle.desk_model.specs.Shows.{AreCached, IsCached}
 use Rattle.desk_model.specs.Sound.{IsSound}
-use Rattle.desk_model.specs.Characters.{AreCharacters}
+use Rattle.desk_model.specs.BookTexts.{AreCharacters}
 use Rattle.desk_model.specs.Translation.{IsBraille}
-use Rattle.desk_model.specs.Step.{next_with_paragraphs, with_change}
+use Rattle.desk_model.specs.NextBook.{next_with_paragraphs, with_change}
 use Rattle.desk_model.proofs.Rows.BookRows.{encoded-text, name-characters, spelled-encoded}
 use Rattle.desk_model.proofs.Lists.Members.{Contains-map}
 use Rattle.desk_model.proofs.Books.ParagraphLists.{Contains-found, IsPermutation-without_paragraph, changed, id-found, ids-with_change, without_paragraph}

@@ -23,7 +23,7 @@ use Rattle.desk_parts.specs.Rows.{Mark as MarkRow, Para, ParaCells}
 use Rattle.desk_model.specs.Shows.{AreCached, IsCached, Shows, entry_rows_of, flag_number, mark_row_of, para_of, style_number}
 use Rattle.desk_model.proofs.Rows.ParaRows.{paras_of}
 use Rattle.desk_model.specs.Sound.{IsSound}
-use Rattle.desk_model.specs.Step.{next_with_marks, next_with_paragraphs, with_change, with_resolved}
+use Rattle.desk_model.specs.NextBook.{next_with_marks, next_with_paragraphs, with_change, with_resolved}
 use Rattle.desk_model.specs.Translation.{IsBraille}
 use Rattle.desk_model.proofs.Lists.Items.{All-from_map}
 use Rattle.desk_model.proofs.Lists.Members.{Contains-map}

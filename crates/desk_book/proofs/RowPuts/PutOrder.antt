@@ -22,7 +22,7 @@ use Rattle.desk_parts.specs.Rows.{ParaCells, Para}
 use Rattle.desk_model.specs.Shows.{IsCached, Shows, entry_rows_of, para_of}
 use Rattle.desk_model.proofs.Rows.ParaRows.{paras_of}
 use Rattle.desk_model.specs.Sound.{IsSound}
-use Rattle.desk_model.specs.Step.{next_with_paragraphs}
+use Rattle.desk_model.specs.NextBook.{next_with_paragraphs}
 use Rattle.desk_model.proofs.Lists.Items.{Contains-there}
 use Rattle.desk_model.proofs.Lists.Members.{Contains-cases, Contains-map, Contains-none}
 use Rattle.desk_model.proofs.Books.ParagraphLists.{ids_of}

@@ -31,8 +31,8 @@ use Rattle.desk_parts.specs.Rows.{NamedCorr, Para, ParaCells}
 use Rattle.desk_model.specs.Shows.{AreCached, IsCached, Shows, entry_row_of, entry_rows_of, para_of}
 use Rattle.desk_model.proofs.Rows.ParaRows.{paras_of}
 use Rattle.desk_model.specs.Sound.{IsSound, IsSoundParagraph}
-use Rattle.desk_model.specs.Step.{next_id, next_with_paragraphs}
-use Rattle.desk_model.specs.Characters.{AreCharacters}
+use Rattle.desk_model.specs.NextBook.{next_id, next_with_paragraphs}
+use Rattle.desk_model.specs.BookTexts.{AreCharacters}
 use Rattle.desk_model.proofs.Rows.BookRows.{encoded-text, name-characters, spelled-encoded}
 use Rattle.desk_model.proofs.Lists.Members.{Contains-cases, Contains-here, Contains-behind, Contains-map, Contains-none}
 use Rattle.desk_model.proofs.Books.ParagraphLists.{ids_of}

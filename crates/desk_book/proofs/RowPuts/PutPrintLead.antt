@@ -30,8 +30,8 @@ use Rattle.desk_parts.specs.Rows.{Mark as MarkRow, NamedCorr, Para, ParaCells}
 use Rattle.desk_model.specs.Shows.{AreCached, Shows, book_row_of, entry_row_of, entry_rows_of, flag_number, mark_row_of, para_of}
 use Rattle.desk_model.proofs.Rows.ParaRows.{paras_of}
 use Rattle.desk_model.specs.Sound.{IsSound, IsSoundEntry, IsSoundMark, IsSoundParagraph}
-use Rattle.desk_model.specs.Step.{next_with_entry}
-use Rattle.desk_model.specs.Characters.{AreCharacters}
+use Rattle.desk_model.specs.NextBook.{next_with_entry}
+use Rattle.desk_model.specs.BookTexts.{AreCharacters}
 use Rattle.desk_model.proofs.Rows.BookRows.{HasCharacters, encoded-text, entry-text, history-characters, spelled-encoded}
 use Rattle.desk_memory.proofs.Callers.{IsWithin-sound}
 use Rattle.desk_model.proofs.Lists.Members.{Contains-behind, Contains-cases, Contains-here, Contains-map, Contains-none}

@@ -24,7 +24,7 @@ use Rattle.desk_parts.specs.Puts.{with_puts}
 use Rattle.desk_parts.specs.Rows.{Mark as MarkRow, NamedCorr}
 use Rattle.desk_model.specs.Shows.{entry_row_of, entry_rows_of, flag_number}
 use Rattle.desk_model.specs.Sound.{IsSoundEntry}
-use Rattle.desk_model.specs.Step.{with_change}
+use Rattle.desk_model.specs.NextBook.{with_change}
 use Rattle.desk_model.proofs.Rows.BookRows.{encoded-text, spelled-encoded}
 use Rattle.desk_model.proofs.Books.HistoryLists.{IsLast-parts, enumerate_from-append, newest-parts}
 use Rattle.desk_model.proofs.Books.ParagraphLists.{AreApart, IsPermutation-without_paragraph, changed, found, id-found, without_paragraph}

@@ -23,7 +23,7 @@ use Rattle.desk_parts.specs.Puts.{PutRow, put_by_key, with_puts}
 use Rattle.desk_parts.specs.Rows.{ParaCells}
 use Rattle.desk_model.specs.Shows.{AreCached, IsCached, Shows}
 use Rattle.desk_model.specs.Sound.{IsSound}
-use Rattle.desk_model.specs.Step.{next_with_table}
+use Rattle.desk_model.specs.NextBook.{next_with_table}
 use Rattle.desk_model.specs.Translation.{IsBraille}
 use Rattle.desk_model.proofs.Books.ParagraphLists.{Contains-found, id-found}
 use Rattle.desk_book.proofs.RowPuts.PutCells.{ForSome-map, id-small, ids-once}

@@ -24,8 +24,8 @@ use Rattle.desk_parts.specs.Puts.{PutRow, RowPut, put_by_key, with_puts}
 use Rattle.desk_parts.specs.Rows.{ParaCells, Tab}
 use Rattle.desk_model.specs.Shows.{AreCached, IsCached, Shows, tab_of}
 use Rattle.desk_model.specs.Sound.{IsSound}
-use Rattle.desk_model.specs.Step.{next_with_table}
-use Rattle.desk_model.specs.Characters.{AreCharacters}
+use Rattle.desk_model.specs.NextBook.{next_with_table}
+use Rattle.desk_model.specs.BookTexts.{AreCharacters}
 use Rattle.desk_model.proofs.Rows.BookRows.{encoded-text, name-characters, spelled-encoded}
 use Rattle.desk_book.proofs.RowPuts.PutAdditions.{All-put_in, IsPermutation-put_in}
 use Rattle.desk_book.proofs.RowPuts.PutLists.{text-bytes}

@@ -21,8 +21,8 @@ use Rattle.desk_parts.specs.Puts.{PutRow, RowPut}
 use Rattle.desk_model.specs.Named.{paragraph_before}
 use Rattle.desk_model.specs.Refusals.{IsAccepted}
 use Rattle.desk_model.specs.Sound.{IsSound}
-use Rattle.desk_model.specs.Step.{Makes, new_paragraph, next_id, next_with_entry, next_with_paragraphs, next_with_table, with_paragraph}
-use Rattle.desk_model.specs.NormalForm.{normal_form}
+use Rattle.desk_model.specs.NextBook.{Makes, new_paragraph, next_id, next_with_entry, next_with_paragraphs, next_with_table, with_paragraph}
+use Rattle.desk_model.specs.BookTexts.{normal_form}
 use Rattle.desk_model.proofs.Commands.Accepted.{named_paragraph}
 use Rattle.desk_model.proofs.Lists.Members.{Contains-map}
 use Rattle.desk_model.proofs.Books.ParagraphLists.{Contains-found, IsPermutation-with_paragraph, id-found, ids_of}

@@ -11,7 +11,7 @@ use Rattle.desk_model.specs.declared.command.Anchor.{Anchor}
 use Rattle.desk_model.specs.declared.command.Anchor.TheVariants.{Front, End, Para}
 use Rattle.desk_model.specs.Book.{Book, Paragraph, paragraph_of}
 use Rattle.desk_model.specs.Named.{paragraph_before}
-use Rattle.desk_model.specs.Step.{with_paragraph, with_change, is_after, with_move}
+use Rattle.desk_model.specs.NextBook.{with_paragraph, with_change, is_after, with_move}
 use Rattle.desk_model.proofs.Lists.Members.{Contains-here, Contains-behind, Contains-cases, Contains-none, Contains-map, find-passes, Contains-find, find-map}
 
 -- ---- the ids

@@ -8,12 +8,12 @@ use Rattle.std.proofs.lemmas.List.{length-append, length-map, length-take, lengt
 use Rattle.std.proofs.lemmas.List.Elements.{All-map, All-weaker}
 use Rattle.louis_translate.specs.Position.{AreDefined}
 use Rattle.desk_model.specs.Book.{Book, Entry, Mark, Paragraph, Replacement, paragraph_of}
-use Rattle.desk_model.specs.NormalForm.{IsClean}
+use Rattle.desk_model.specs.BookTexts.{IsClean}
 use Rattle.desk_model.specs.Limits.{most_entries, most_marks, most_note, most_paragraphs, most_print, most_version}
 use Rattle.desk_model.specs.Marks.{mark_moved_by}
 use Rattle.desk_model.specs.Print.{corrected_print, print_of, with_entry, with_replacement}
 use Rattle.desk_model.specs.Sound.{AreSoundEntries, IsSoundEntry, IsSoundHistory, IsSoundParagraph, IsSoundMark, IsSound}
-use Rattle.desk_model.specs.Step.{next_with_entry, next_with_marks, with_change, with_marks_moved, with_resolved}
+use Rattle.desk_model.specs.NextBook.{next_with_entry, next_with_marks, with_change, with_marks_moved, with_resolved}
 use Rattle.desk_model.proofs.Lists.Items.{each-push}
 use Rattle.desk_model.proofs.Books.ParagraphLists.{ids_of, found, changed, found-changed, found-unchanged, ids-with_change, All-with_change}
 use Rattle.desk_model.proofs.Books.SoundBooks.{IsSoundParagraph-same_texts, paragraph_of-own}

@@ -12,8 +12,8 @@ use Rattle.desk_model.specs.Print.{corrected_print, print_of}
 use Rattle.desk_model.specs.Named.{paragraph_before}
 use Rattle.desk_model.specs.Limits.{most_version, most_paragraphs}
 use Rattle.desk_model.specs.Sound.{IsSoundHistory, IsSoundParagraph, IsSoundMark, IsSound}
-use Rattle.desk_model.specs.Step.{with_paragraph, with_change, next_id, next_with_paragraphs}
-use Rattle.desk_model.specs.NormalForm.{IsClean}
+use Rattle.desk_model.specs.NextBook.{with_paragraph, with_change, next_id, next_with_paragraphs}
+use Rattle.desk_model.specs.BookTexts.{IsClean}
 use Rattle.desk_model.proofs.Lists.Numbering.{next-number, IsDistinct-numbers}
 use Rattle.desk_model.proofs.Books.ParagraphLists.{ids_of, AreApart, found, changed, id-found, found-permutation, ids-with_change, found-with_change, All-with_change, IsPermutation-with_paragraph}
 use Rattle.desk_model.proofs.Books.SoundBooks.{IsSoundParagraph-same_texts, paragraphs-apart, paragraph_of-within, paragraph_of-own, IsSoundParagraph-found}

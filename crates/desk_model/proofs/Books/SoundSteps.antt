@@ -28,9 +28,8 @@ use Rattle.desk_model.specs.Named.{HasCharacters, paragraph_before}
 use Rattle.desk_model.specs.Refusals.{DefinesUser, IsAccepted}
 use Rattle.desk_model.specs.Limits.{most_tables, most_print}
 use Rattle.desk_model.specs.Sound.{IsSoundHistory, IsSoundTable, IsSoundParagraph, IsSoundMark, IsSound}
-use Rattle.desk_model.specs.Step.{new_paragraph, with_change, with_paragraph, with_move, next_id, IsNewest, next_mark, next_with_entry, next_with_marks, next_with_paragraphs, replacement_by, Makes, next_with_table}
-use Rattle.desk_model.specs.NormalForm.{is_barred, IsClean, IsUnbarred, normal_form}
-use Rattle.desk_model.specs.Characters.{AreCharacters}
+use Rattle.desk_model.specs.NextBook.{new_paragraph, with_change, with_paragraph, with_move, next_id, IsNewest, next_mark, next_with_entry, next_with_marks, next_with_paragraphs, replacement_by, Makes, next_with_table}
+use Rattle.desk_model.specs.BookTexts.{AreCharacters, IsClean, IsUnbarred, is_barred, normal_form}
 use Rattle.desk_model.proofs.Lists.Options.{IsSomeAnd-of}
 use Rattle.desk_model.proofs.Commands.Accepted.{given_proofreader, given_unbarred, room_for_entry, room_for_mark, short_note, room_for_version, named_paragraph, named_table, shown_defined, short_print, room_for_paragraph, given_name, given_meaning, room_for_table, users_defined}
 use Rattle.desk_model.proofs.Commands.Ranks.{changed-print, changed-translated}

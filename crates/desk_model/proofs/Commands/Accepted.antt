@@ -9,8 +9,8 @@ use Rattle.desk_model.specs.declared.refusal.Limit.TheVariants.{Tables, Paragrap
 use Rattle.desk_model.specs.declared.refusal.Refusal.TheVariants.{BadName, BadReader, BadText, NoParagraph, NoTable, TooLong, Full, BadTable, Undefined, Untranslatable}
 use Rattle.desk_model.specs.Book.{Book, Paragraph, text_of, paragraph_of}
 use Rattle.desk_model.specs.Limits.{most_entries, most_marks, most_note, most_version, most_tables, most_paragraphs, most_print}
-use Rattle.desk_model.specs.Name.{IsProofreaderName, IsTableName}
-use Rattle.desk_model.specs.NormalForm.{IsFirstBarred, IsUnbarred, is_barred}
+use Rattle.desk_model.specs.ValidNames.{IsProofreaderName, IsTableName}
+use Rattle.desk_model.specs.BookTexts.{IsFirstBarred, IsUnbarred, is_barred}
 use Rattle.desk_model.specs.Named.{named_by}
 use Rattle.desk_model.specs.Refusals.{DefinesUser, IsAccepted, new_print, print_to_translate}
 use Rattle.desk_model.proofs.Lists.Options.{IsSomeAnd-of, given_unless}

@@ -6,7 +6,7 @@ use Rattle.desk_model.specs.declared.refusal.Refusal.{Refusal}
 use Rattle.desk_model.specs.declared.refusal.Refusal.TheVariants.{Moved}
 use Rattle.desk_model.specs.Book.{Book}
 use Rattle.desk_model.specs.Refusals.{Holds, IsAccepted, IsMoved, IsRefused}
-use Rattle.desk_model.specs.Step.{Makes}
+use Rattle.desk_model.specs.NextBook.{Makes}
 
 pub moved : (book : Book) (expect : Option ℕ) (command : Command) (version : ℕ) → IsMoved book expect version → IsRefused book expect command (Moved version)
 moved book expect command version is = record { holds = is; first = λ other h. omega arith }

@@ -43,7 +43,7 @@ IsFirstUser-later meaning name p ps id place here found = record {
   after = found.after;
   parts = ap (λ (rest : List Paragraph). p ∷ rest) found.parts;
   uses = found.uses;
-  told = found.told;
+  reported = found.reported;
   first = found.first;
   others = All-cons (DefinesUser meaning name) p found.before here found.others;
 }
@@ -77,7 +77,7 @@ all_or_first_user meaning name (p ∷ ps) =
           after = ps;
           parts = refl;
           uses = lacks.0;
-          told = refl;
+          reported = refl;
           first = lacks.1.1;
           others = All-nil (DefinesUser meaning name);
         },

@@ -14,8 +14,8 @@ use Rattle.louis_table.specs.declared.fault.TableFault.{TableFault}
 use Rattle.louis_table.specs.Table.{Bad}
 use Rattle.desk_model.specs.Book.{Book, mark_of, paragraph_of, text_of}
 use Rattle.desk_model.specs.Limits.{most_entries, most_note, most_print, most_tables}
-use Rattle.desk_model.specs.Name.{IsProofreaderName, IsTableName}
-use Rattle.desk_model.specs.NormalForm.{IsFirstBarred}
+use Rattle.desk_model.specs.ValidNames.{IsProofreaderName, IsTableName}
+use Rattle.desk_model.specs.BookTexts.{IsFirstBarred}
 use Rattle.desk_model.specs.Print.{newest}
 use Rattle.desk_model.proofs.Lists.Options.{IsSomeAnd-some}
 use Rattle.desk_model.specs.Judging.{Passes}

@@ -14,7 +14,7 @@ use Rattle.desk_model.specs.Book.{Book, Paragraph, text_of}
 use Rattle.desk_model.specs.Named.{named_by}
 use Rattle.desk_model.specs.Refusals.{DefinesUser, Holds, IsRefused, IsUndefined, IsUntranslatable}
 use Rattle.desk_model.specs.Print.{print_of}
-use Rattle.desk_model.specs.NormalForm.{IsFirstBarred}
+use Rattle.desk_model.specs.BookTexts.{IsFirstBarred}
 use Rattle.desk_model.specs.Ranks.{rank}
 use Rattle.desk_model.proofs.Commands.Judging.{limit_rank, same_limit}
 use Rattle.desk_model.proofs.Commands.Ranks.{defined_not_first}
@@ -87,14 +87,14 @@ module _ (book : Book) (expect : Option ℕ) (command : Command) where
       let one = one_lacking (DefinesUser a.meaning a.name) u.before u.paragraph u.after v.before v.paragraph v.after (sym u.parts ∙ v.parts) u.others before
       (λ defines. defined_not_first a.meaning (print_of u.paragraph) place (defines u.uses) u.first)
       (λ defines. defined_not_first a.meaning (print_of v.paragraph) other (defines (v.uses ∙ names)) first) in (
-        u.told ∙ (ap (λ (p : Paragraph). p.id) one ∙ sym v.told),
+        u.reported ∙ (ap (λ (p : Paragraph). p.id) one ∙ sym v.reported),
         one_undefined a.meaning (print_of u.paragraph) place other u.first (subst (λ (p : Paragraph). IsFirstUndefined a.meaning (print_of p) other) (sym one) first),
       )
 
   -- ---- of one rank
 
   same_refusal : (r s : Refusal) → rank r ≡ rank s → Holds book expect command r → Holds book expect command s → r ≡ s
-  same_refusal (Moved v) (Moved w) e a b = ap Moved (a.told ∙ sym b.told)
+  same_refusal (Moved v) (Moved w) e a b = ap Moved (a.reported ∙ sym b.reported)
   same_refusal BadName BadName e a b = refl
   same_refusal BadReader BadReader e a b = refl
   same_refusal (BadText p) (BadText q) e a b = ap BadText (one_text (named_by command).text_given p q a b)

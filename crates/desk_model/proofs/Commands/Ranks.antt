@@ -11,7 +11,7 @@ use Rattle.desk_model.specs.Judging.{Passes}
 use Rattle.desk_model.specs.Limits.{most_note, most_paragraphs, most_print, most_version}
 use Rattle.desk_model.specs.Named.{Changed, named_by}
 use Rattle.desk_model.specs.Refusals.{Holds, IsAccepted, IsLongerThan, new_print, print_and_table, print_made}
-use Rattle.desk_model.specs.NormalForm.{IsUnbarred, IsFirstBarred}
+use Rattle.desk_model.specs.BookTexts.{IsUnbarred, IsFirstBarred}
 use Rattle.desk_model.specs.Ranks.{bad_table_rank, bad_text_rank, rank}
 use Rattle.desk_model.proofs.Commands.Judging.{IsAccepted-passes, Passes-past, Passes-skip, Passes-start, skips}
 use Rattle.desk_model.proofs.Commands.TextTests.{IsUnbarred-none}

@@ -14,11 +14,11 @@ use Rattle.desk_model.specs.declared.refusal.Refusal.TheVariants.{BadName, BadRe
 use Rattle.louis_table.specs.declared.fault.TableFault.{TableFault}
 use Rattle.desk_model.specs.Book.{Book, Mark as BookMark, Paragraph, mark_of, paragraph_of, text_of}
 use Rattle.desk_model.specs.Limits.{most_entries, most_marks, most_note, most_paragraphs, most_print, most_tables, most_version}
-use Rattle.desk_model.specs.Name.{IsProofreaderName, IsTableName}
+use Rattle.desk_model.specs.ValidNames.{IsProofreaderName, IsTableName}
 use Rattle.desk_model.specs.Named.{Cells, Characters, Span, named_by}
 use Rattle.desk_model.specs.Refusals.{Holds, IsFirstUser, IsFull, IsLongerThan, IsMoved, IsUndefined, IsUntranslatable, LacksSpan, new_print, print_to_translate}
 use Rattle.desk_model.specs.Print.{newest, print_of}
-use Rattle.desk_model.specs.NormalForm.{IsFirstBarred, is_barred}
+use Rattle.desk_model.specs.BookTexts.{IsFirstBarred, is_barred}
 use Rattle.desk_model.specs.Translation.{LacksCells}
 use Rattle.desk_model.proofs.Commands.FirstUndefined.{IsFirstUser-none, all_or_first_user, defined_or_first}
 use Rattle.desk_model.proofs.Commands.MarkedPlaces.{has_cells}
@@ -143,7 +143,7 @@ module _ (book : Book) (command : Command) where
   moved_or (Some expected) =
       elim (cases_eq expected book.version) [
         | inl same ↦ inr (λ v h. h.other (sym (same_Some expected h.expected h.given) ∙ same))
-        | inr other ↦ inl (book.version, record { expected = expected; given = refl; other = other; told = refl })
+        | inr other ↦ inl (book.version, record { expected = expected; given = refl; other = other; reported = refl })
       ]
 
   pub bad_text : SomeOrNone (λ place. Holds book None command (BadText place))

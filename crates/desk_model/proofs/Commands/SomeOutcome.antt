@@ -15,7 +15,7 @@ use Rattle.desk_model.specs.Print.{newest}
 use Rattle.desk_model.specs.Refusals.{Holds, IsAccepted, IsRefused}
 use Rattle.desk_model.specs.Sound.{IsSound}
 use Rattle.desk_model.specs.Translation.{AreMarked}
-use Rattle.desk_model.specs.Step.{Makes, next_with_entry, next_with_marks, next_mark}
+use Rattle.desk_model.specs.NextBook.{Makes, next_with_entry, next_with_marks, next_mark}
 use Rattle.desk_model.specs.Ranks.{bad_table_rank, bad_text_rank, rank, undefined_rank, untranslatable_rank}
 use Rattle.desk_model.proofs.Commands.Accepted.{named_paragraph}
 use Rattle.desk_model.proofs.Commands.Judging.{IsAccepted-passes, IsRefused-passes, NoneHolds, Passes-past, Passes-start, skips}
@@ -40,13 +40,13 @@ module _ (book : Book) (expect : Option ℕ) (command : Command) where
 
   judged : (n m : ℕ) (refusal : Refusal) → rank refusal ≡ n → Decided (Holds book expect command refusal)
       → (Passes book expect command n → ¬ Holds book expect command refusal → Passes book expect command m) → Judged n → Judged m
-  judged n m refusal at held more (inl told) = inl told
+  judged n m refusal at held more (inl reported) = inl reported
   judged n m refusal at (inl holds) more (inr passes) = inl (refusal, IsRefused-passes book expect command n refusal passes at holds)
   judged n m refusal at (inr not_held) more (inr passes) = inr (more passes not_held)
 
   judged_by : {X : Type 0} (n : ℕ) (N : Type 0) (refusal : X → Refusal) → ((x : X) → rank (refusal x) ≡ n) → SomeOrNone (λ x. Holds book expect command (refusal x))
       → (Passes book expect command n → ((x : X) → ¬ Holds book expect command (refusal x)) → N) → Judged n → Told ⊎ N
-  judged_by n N refusal at held more (inl told) = inl told
+  judged_by n N refusal at held more (inl reported) = inl reported
   judged_by n N refusal at (inl holds) more (inr passes) = inl (refusal holds.0, IsRefused-passes book expect command n (refusal holds.0) passes (at holds.0) holds.1)
   judged_by n N refusal at (inr not_held) more (inr passes) = inr (more passes not_held)
 
@@ -75,8 +75,8 @@ module _ (book : Book) (expect : Option ℕ) (command : Command) where
       let nothing : Judged (rank TooLong) = judged (rank NothingToUndo) (rank TooLong) NothingToUndo refl (nothing_to_undo book command) (past NothingToUndo (rank TooLong) refl) span in
       judged (rank TooLong) (rank (Full Tables)) TooLong refl (too_long book command) (past TooLong (rank (Full Tables)) refl) nothing
 
-  told_or_accepted : Told ⊎ IsAccepted book expect command
-  told_or_accepted =
+  reported_or_accepted : Told ⊎ IsAccepted book expect command
+  reported_or_accepted =
       let limits : Judged bad_table_rank = full_or Version refl (full_or Marks refl (full_or Entries refl (full_or Paragraphs refl (full_or Tables refl to_limits)))) in
       let table : Judged undefined_rank = judged_by bad_table_rank (Passes book expect command undefined_rank) BadTable (λ fault. refl) (bad_table book command) (past (BadTable (record { line = 0; cause = 0 })) undefined_rank refl) limits in
       let shown : Judged untranslatable_rank = judged_by undefined_rank (Passes book expect command untranslatable_rank) Undefined (λ place. refl) (undefined book command) (past (Undefined 0) untranslatable_rank refl) table in
@@ -116,8 +116,8 @@ some_next book expect command sound accepted = (_, refl)
 
 pub one_outcome : (book : Book) (expect : Option ℕ) (command : Command) → IsSound book → HasOneOutcome book expect command
 one_outcome book expect command sound =
-    elim (told_or_accepted book expect command) [
-      | inl told ↦ inl (record { refusal = told.0; told = told.1; only = λ other h. one_refusal book expect command other told.0 h told.1 })
+    elim (reported_or_accepted book expect command) [
+      | inl reported ↦ inl (record { refusal = reported.0; reported = reported.1; only = λ other h. one_refusal book expect command other reported.0 h reported.1 })
       | inr accepted ↦
           let next = some_next book expect command sound accepted in
           inr (record { accepted = accepted; next = next.0; makes = next.1; only = λ other h. one_next book command other next.0 h next.1 })

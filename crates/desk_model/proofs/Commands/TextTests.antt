@@ -4,7 +4,7 @@ use Rattle.std.specs.List.{position, position_or_len}
 use Rattle.std.proofs.lemmas.Bool.{cases_lt, lt-ltb, both_ways, not-true}
 use Rattle.std.proofs.lemmas.List.Quantifiers.{position-Some}
 use Rattle.std.proofs.lemmas.List.Sums.{prefix_len_passes}
-use Rattle.desk_model.specs.NormalForm.{IsUnbarred, IsFirstBarred, is_barred}
+use Rattle.desk_model.specs.BookTexts.{IsUnbarred, IsFirstBarred, is_barred}
 
 pub IsFirstBarred-position : (text : List ℕ) (place : ℕ) → position is_barred text ≡ Some place → IsFirstBarred text place
 IsFirstBarred-position text place e =

@@ -5,7 +5,7 @@ use Rattle.desk_model.specs.Book.{Book, Paragraph, Undoes}
 use Rattle.desk_model.specs.Print.{with_entry}
 use Rattle.desk_model.specs.Restoration.{RestoresPrint}
 use Rattle.desk_model.specs.Sound.{IsSound}
-use Rattle.desk_model.specs.Step.{Makes}
+use Rattle.desk_model.specs.NextBook.{Makes}
 use Rattle.desk_model.proofs.Books.HistoryLists.{IsLast-parts, corrected_print-before, newest-parts}
 use Rattle.desk_model.proofs.Books.ParagraphLists.{found, found-changed}
 use Rattle.desk_model.proofs.Books.SoundBooks.{IsSoundParagraph-found}

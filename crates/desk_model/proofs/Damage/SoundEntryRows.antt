@@ -19,12 +19,12 @@ use Rattle.desk_model.specs.Book.{Entry, Corrects, Undoes, Book, Paragraph}
 use Rattle.desk_model.specs.Damage.{HasPara, HasSoundEntries, IsDamaged, IsDamagedCache, IsDamagedEntries, IsSoundCacheRow, IsSoundCorrection, IsSoundEntryRow, IsSoundUndo, entry_of, history_of, rows_with}
 use Rattle.desk_parts.specs.FileRows.{FileRows, HasUtf8Texts, entries_in, spelled}
 use Rattle.desk_model.specs.Limits.{most_print}
-use Rattle.desk_model.specs.Name.{IsProofreaderName}
+use Rattle.desk_model.specs.ValidNames.{IsProofreaderName}
 use Rattle.desk_model.specs.Print.{corrected_print}
 use Rattle.desk_parts.specs.Rows.{NamedCorr, Para, ParaCells}
 use Rattle.desk_model.specs.Shows.{AreCached, IsCached, Shows, entry_row_of, entry_rows_of, para_of}
 use Rattle.desk_model.specs.Sound.{IsSoundEntry, IsSoundHistory}
-use Rattle.desk_model.specs.NormalForm.{IsUnbarred}
+use Rattle.desk_model.specs.BookTexts.{IsUnbarred}
 use Rattle.desk_model.proofs.Lists.Items.{Contains-there}
 use Rattle.desk_model.proofs.Lists.Members.{Contains-behind, Contains-cases, Contains-here, Contains-map, Contains-none}
 use Rattle.desk_model.proofs.Rows.OneBook.{from_flat_map, named_in}

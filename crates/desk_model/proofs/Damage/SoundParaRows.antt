@@ -18,7 +18,7 @@ use Rattle.desk_model.specs.Print.{print_of}
 use Rattle.desk_parts.specs.Rows.{Para, Mark as MarkRow}
 use Rattle.desk_model.specs.Shows.{Shows, mark_row_of, para_of}
 use Rattle.desk_model.specs.Sound.{IsSoundEntry, IsSoundMark, IsSoundParagraph}
-use Rattle.desk_model.specs.NormalForm.{IsUnbarred, is_barred}
+use Rattle.desk_model.specs.BookTexts.{IsUnbarred, is_barred}
 use Rattle.desk_model.proofs.Lists.Members.{Contains-map}
 use Rattle.desk_model.proofs.Books.ParagraphLists.{Contains-found, id-found, ids_of}
 use Rattle.desk_model.proofs.Books.PrintCharacters.{HasText, print-all}

@@ -22,7 +22,7 @@ use Rattle.desk_model.specs.Limits.{most_version}
 use Rattle.desk_parts.specs.Rows.{Tab}
 use Rattle.desk_model.specs.Shows.{Shows, book_row_of, flag_number, style_number, tab_of}
 use Rattle.desk_model.specs.Sound.{IsSoundTable}
-use Rattle.desk_model.specs.Name.{IsTableName}
+use Rattle.desk_model.specs.ValidNames.{IsTableName}
 use Rattle.desk_model.proofs.Lists.Items.{Contains-there}
 use Rattle.desk_model.proofs.Lists.Members.{Contains-map}
 use Rattle.desk_model.proofs.Lists.RowNumbers.{Contains-from_map, pos_le}
@@ -118,7 +118,7 @@ module _ (rows : FileRows) (book : Book) (shown : Shows rows book) where
         let apart = apart_from_distinct same_name (names sorted) i j d
         (IsDistinct-IsPermutation same_name same_name-flips (map (λ e. e.0) book.tables) (names sorted) names-moved
         (IsDistinct-from_sorted (slice_cmp nat_cmp) (map (λ e. e.0) book.tables) shown.sound.names)) less (omega (arith, long, within)) in
-        let told : same_name (chars one.name) (chars other.name) ≡ false = sym (ap₂ same_name first second) ∙ apart in
+        let reported : same_name (chars one.name) (chars other.name) ≡ false = sym (ap₂ same_name first second) ∙ apart in
         let is : same_name (chars one.name) (chars other.name) ≡ true = ap (λ n. same_name (chars one.name) (chars n)) (sym same) ∙ same_name-self (chars one.name) in
         cc
 
@@ -136,4 +136,4 @@ module _ (rows : FileRows) (book : Book) (shown : Shows rows book) where
         }
 
   pub sound-tab : (id : ℤ) → ¬ IsDamagedTab rows.tabs id
-  sound-tab id (sorted, moved, ordered, (index, row, at, told, unsound)) = unsound (sound-tab_row sorted moved index row at)
+  sound-tab id (sorted, moved, ordered, (index, row, at, reported, unsound)) = unsound (sound-tab_row sorted moved index row at)

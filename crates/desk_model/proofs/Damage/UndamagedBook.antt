@@ -24,7 +24,7 @@ use Rattle.desk_model.specs.Book.{Book, Mark, Paragraph, paragraph_of, text_of}
 use Rattle.desk_model.specs.Damage.{HasItsTables, HasSoundEntries, IsDamaged, IsDamagedCache, IsDamagedEntries, IsItsTable, IsSoundBookRow, IsSoundCacheRow, IsSoundMarkRow, IsSoundParaRow, history_of}
 use Rattle.desk_parts.specs.FileRows.{AreTexts, EntryRows, FileRows, HasUtf8Texts, Named, Unnamed, entries_in, format_of, spelled, table_of}
 use Rattle.desk_model.specs.Limits.{most_marks, most_paragraphs, most_version}
-use Rattle.desk_model.specs.Name.{IsTableName, is_name_character}
+use Rattle.desk_model.specs.ValidNames.{IsTableName, is_name_character}
 use Rattle.desk_model.specs.Print.{corrected_print, print_of}
 use Rattle.desk_parts.specs.Rows.{Mark as MarkRow, NamedCorr, Para, ParaCells, Tab}
 use Rattle.desk_model.specs.Shows.{AreCached, IsCached, Shows, book_row_of, entry_rows_of, mark_row_of, para_of, tab_of}

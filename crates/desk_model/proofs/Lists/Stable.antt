@@ -4,13 +4,13 @@ use Rattle.std.specs.Cmp.{signed_Decides}
 use Rattle.std.specs.Cmp.Lexicographic.{pointwise}
 use Rattle.std.proofs.lemmas.Bool.{cases_Bool, cases_eq, both_ways, le-leb}
 use Rattle.desk_model.specs.Damage.{IsFlag, IsWithin}
-use Rattle.desk_model.specs.NormalForm.{IsUnbarred, is_barred}
+use Rattle.desk_model.specs.BookTexts.{IsUnbarred, is_barred}
 use Rattle.desk_model.proofs.Lists.Decisions.{Decided, all, at_most, both, either, isnt_so, below, implied, is_so}
 use Rattle.desk_model.proofs.Lists.Members.{Contains-behind, Contains-cases, Contains-here, Contains-none}
 use Rattle.desk_model.proofs.Lists.RowNumbers.{pos_le}
 use Rattle.desk_model.proofs.Lists.TableEntries.{Decides-name}
 use Rattle.desk_model.specs.Limits.{most_name, most_proofreader}
-use Rattle.desk_model.specs.Name.{IsProofreaderName, IsTableName, is_name_character, is_proofreader_character}
+use Rattle.desk_model.specs.ValidNames.{IsProofreaderName, IsTableName, is_name_character, is_proofreader_character}
 
 abbrev pub Stable : Type 0 → Type 0
 Stable P = ¬ ¬ P → P

@@ -13,13 +13,13 @@ use Rattle.desk_parts.specs.declared.file_table.FileTable.TheVariants.{Corr as C
 use Rattle.desk_model.specs.Book.{Entry, Corrects, Undoes, Paragraph, Book}
 use Rattle.desk_parts.specs.declared.file_table.FileTable.TheVariants as file
 use Rattle.desk_parts.specs.FileRows.{FileRows, HasUtf8Texts, Named, Unnamed, spelled, table_of}
-use Rattle.desk_model.specs.Name.{IsTableName, is_name_character}
+use Rattle.desk_model.specs.ValidNames.{IsTableName, is_name_character}
 use Rattle.desk_model.specs.Print.{print_of}
 use Rattle.desk_parts.specs.Rows.{Corr, Tab, Para, NamedCorr, Mark as MarkRow, ParaCells}
 use Rattle.desk_model.specs.Shows.{AreCached, IsCached, IsUnnamed, Shows, book_row_of, entry_row_of, entry_rows_of, mark_row_of, para_of, tab_of}
 use Rattle.desk_model.proofs.Rows.ParaRows.{paras_of}
 use Rattle.desk_model.specs.Sound.{IsSound, IsSoundEntry, IsSoundMark, IsSoundParagraph, IsSoundTable}
-use Rattle.desk_model.specs.Characters.{AreCharacters}
+use Rattle.desk_model.specs.BookTexts.{AreCharacters}
 use Rattle.desk_model.proofs.Lists.Permutations.{IsPermutation-same}
 use Rattle.desk_model.proofs.Books.PrintCharacters.{HasText, print-all}
 use Rattle.desk_model.proofs.Books.SoundBooks.{IsSoundTable-found}

@@ -14,7 +14,7 @@ use Rattle.desk_model.specs.Print.{corrected_print}
 use Rattle.desk_parts.specs.Rows.{Mark as MarkRow, NamedCorr, Para}
 use Rattle.desk_model.specs.Shows.{entry_row_of, flag_number, mark_row_of, style_number}
 use Rattle.desk_model.specs.Sound.{IsSoundEntry, IsSoundHistory}
-use Rattle.desk_model.specs.Characters.{AreCharacters}
+use Rattle.desk_model.specs.BookTexts.{AreCharacters}
 use Rattle.desk_model.proofs.Lists.CharacterLists.{AreCharacters-scalars}
 use Rattle.desk_model.proofs.Lists.Items.{Contains-there, slice_get-there}
 use Rattle.desk_model.proofs.Rows.OneBook.{number, to_flag, to_style}

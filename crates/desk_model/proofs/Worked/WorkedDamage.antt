@@ -11,11 +11,11 @@ use Rattle.desk_parts.specs.declared.rows.BookRow.{BookRow}
 use Rattle.desk_model.specs.Damage.{IsDamagedBook, IsDamagedCache, IsDamagedEntries, IsDamagedMark, IsDamagedPara, IsDamagedTab, IsFirstDamage, IsNumber, IsPrintText, IsSoundMarkRow, IsSoundParaRow, IsSpanned}
 use Rattle.desk_parts.specs.FileRows.{FileRows, Named}
 use Rattle.desk_model.specs.Limits.{most_marks, most_note, most_paragraphs, most_version}
-use Rattle.desk_model.specs.Name.{IsTableName}
+use Rattle.desk_model.specs.ValidNames.{IsTableName}
 use Rattle.desk_parts.specs.Rows.{Mark, NamedCorr, Para, ParaCells, Tab}
 use Rattle.desk_model.specs.Shows.{book_row_of, mark_row_of}
 use Rattle.desk_model.specs.Book.{new_mark}
-use Rattle.desk_model.specs.NormalForm.{IsUnbarred, is_barred}
+use Rattle.desk_model.specs.BookTexts.{IsUnbarred, is_barred}
 use Rattle.desk_model.proofs.Damage.FirstDamage.{IsWholeBefore, before-book, before-cache, before-entries, before-mark, before-para, before-tab}
 use Rattle.desk_model.proofs.Lists.Members.{Contains-behind, Contains-cases, Contains-here, Contains-none}
 use Rattle.desk_model.proofs.Lists.RowNumbers.{pos_le, same_number}
@@ -93,7 +93,7 @@ sound-books id (at, unsound) = unsound (
 )
 
 no-tabs : (id : ℤ) → ¬ IsDamagedTab [] id
-no-tabs id (sorted, moved, ordered, (index, row, at, told, unsound)) =
+no-tabs id (sorted, moved, ordered, (index, row, at, reported, unsound)) =
     omega (arith, length_permutation _ _ moved, slice_get_within sorted index row at)
 
 no-paras : (tabs : List Tab) (id : ℤ) → ¬ IsDamagedPara tabs [] id
@@ -128,7 +128,7 @@ tab-first : IsFirstDamage (all_wrong sound_books) file.Tab (pos 1)
 tab-first = record {
   damaged = (nameless ∷ [], IsPermutation-refl (nameless ∷ []), λ k d low less. absurd (omega (arith, less)), (0, nameless, refl, refl, λ sound. nameless-is sound.named));
   tables = before-tab (all_wrong sound_books) sound-books;
-  ids = λ id (sorted, moved, ordered, (index, row, at, told, unsound)). subst (λ z. pos 1 ≤ℤ z) (sym told) (pos_le 1 (index + 1) (omega arith));
+  ids = λ id (sorted, moved, ordered, (index, row, at, reported, unsound)). subst (λ z. pos 1 ≤ℤ z) (sym reported) (pos_le 1 (index + 1) (omega arith));
 }
 
 alone-unsound : ¬ IsSoundParaRow [] (second_alone ∷ []) second_alone
@@ -222,8 +222,8 @@ gap-unsound sound =
     ]
 
 -- a gap is reported at the row after it
-gap-told : IsDamagedMark one_para gap (pos 3)
-gap-told = (mark_at 3, Contains-behind (mark_at 1) (mark_at 3) (mark_at 3 ∷ []) (Contains-here (mark_at 3) []), refl, gap-unsound)
+gap-reported : IsDamagedMark one_para gap (pos 3)
+gap-reported = (mark_at 3, Contains-behind (mark_at 1) (mark_at 3) (mark_at 3 ∷ []) (Contains-here (mark_at 3) []), refl, gap-unsound)
 
 -- and only there
 gap-only : (id : ℤ) → IsDamagedMark one_para gap id → id ≡ pos 3
@@ -234,8 +234,8 @@ gap-only id (row, c, named, unsound) =
     ]
 
 -- a number that two rows have is reported
-twice-told : IsDamagedMark one_para twice (pos 2)
-twice-told = (
+twice-reported : IsDamagedMark one_para twice (pos 2)
+twice-reported = (
   mark_at 2,
   Contains-behind (mark_at 1) (mark_at 2) (mark_at 2 ∷ mark_at 2 ∷ []) (Contains-here (mark_at 2) (mark_at 2 ∷ [])),
   refl,
@@ -286,8 +286,8 @@ module _ (tab : Tab) (meaning : Meaning) (means : Means tab.body meaning) where
     struck = inl refl;
   }
 
-  place-told : IsDamagedPara (tab ∷ []) one_place (pos 2)
-  place-told = (
+  place-reported : IsDamagedPara (tab ∷ []) one_place (pos 2)
+  place-reported = (
     para_at (pos 2) (pos 1) tab.name,
     Contains-here (para_at (pos 2) (pos 1) tab.name) (para_at (pos 1) (pos 1) tab.name ∷ []),
     refl,

@@ -27,13 +27,13 @@ use Rattle.desk_model.specs.Book.{Book, Paragraph, Replacement, Entry, Corrects,
 use Rattle.desk_model.specs.Print.{corrected_print, newest, stack}
 use Rattle.desk_model.specs.Marks.{mark_moved, mark_moved_back}
 use Rattle.desk_model.specs.Judging.{Passes}
-use Rattle.desk_model.specs.Name.{IsProofreaderName, is_proofreader_character}
+use Rattle.desk_model.specs.ValidNames.{IsProofreaderName, is_proofreader_character}
 use Rattle.desk_model.specs.Refusals.{IsRefused, new_print, print_to_translate}
 use Rattle.desk_model.specs.Limits.{most_entries, most_print}
-use Rattle.desk_model.specs.Numbers.{code_of}
+use Rattle.desk_model.specs.Codes.{code_of}
 use Rattle.desk_model.specs.Named.{number_of}
-use Rattle.desk_model.specs.Step.{Makes}
-use Rattle.desk_model.specs.NormalForm.{IsUnbarred, is_barred}
+use Rattle.desk_model.specs.NextBook.{Makes}
+use Rattle.desk_model.specs.BookTexts.{IsUnbarred, is_barred}
 use Rattle.desk_model.specs.Ranks.{bad_table_rank, bad_text_rank, rank, undefined_rank}
 use Rattle.desk_model.proofs.Commands.Expecting.{moved}
 use Rattle.desk_model.proofs.Commands.Judging.{IsRefused-passes, Passes-past}
@@ -178,7 +178,7 @@ past-the-print =
     IsRefused-passes book None x_past_the_end (rank BadSpan) BadSpan (to_rank book x_past_the_end (rank NotStruck) (rank BadSpan) refl fit) refl (lit< tt)
 
 another-version : IsRefused taken_back_book (Some 9) (Undo 1) (Moved 4)
-another-version = moved taken_back_book (Some 9) (Undo 1) 4 (record { expected = 9; given = refl; other = λ same. omega arith; told = refl })
+another-version = moved taken_back_book (Some 9) (Undo 1) 4 (record { expected = 9; given = refl; other = λ same. omega arith; reported = refl })
 
 none-in-force : IsRefused taken_back_book None (Undo 1) NothingToUndo
 none-in-force =

@@ -25,7 +25,7 @@ use Rattle.desk_rows.specs.Descriptions.{description_of, table_of}
 use Rattle.desk_rows.specs.Layout.{Layout}
 use Rattle.desk_rows.specs.Contents.{Contents}
 use Rattle.desk_rows.specs.Puts.{IsPut, PutsAll, RunsTo, put_into, puts_into, statement}
-use Rattle.desk_rows.specs.Turns.{FailsWith, Ran, RunInTurn}
+use Rattle.desk_rows.specs.Statements.{FailsWith, Ran, RunInTurn}
 use Rattle.desk_rows.specs.Rows.{columns_of, set_at}
 use Rattle.desk_parts.specs.Rows.{RowOf}
 use Rattle.desk_rows.specs.States.{IsFile, IsUnder}
@@ -90,9 +90,9 @@ module _ (it : RowPut) (old new : State) where
     is_open = h.1.was_open;
     inside = h.1.mode;
     kept = inside_keeps old new 0 false (statement it).text (statement it).params (Ok count) h;
-    told = λ was. tt;
+    reported = λ was. tt;
   }
-  put_ran (Err e) ran = record { put = λ committed l c there was. tt; ran = tt; is_open = tt; inside = tt; kept = ran.0; told = λ was. inl (ran.1 was) }
+  put_ran (Err e) ran = record { put = λ committed l c there was. tt; ran = tt; is_open = tt; inside = tt; kept = ran.0; reported = λ was. inl (ran.1 was) }
 
 module _ (x : BookRow) (old new : State) where
   pub puts_row : (r : Result (Unit {0}) Error) → IsPut r (PutRow tables.Book x) old new → OnOk r (PutsAll (PutRow tables.Book x ∷ []) old new × Ran (statement (PutRow tables.Book x)) old new)
@@ -100,9 +100,9 @@ module _ (x : BookRow) (old new : State) where
   puts_row (Err e) it = tt
 
   -- it allocates nothing of its own
-  pub row_told : (r : Result (Unit {0}) Error) → IsPut r (PutRow tables.Book x) old new → old.in_transaction ≡ true → IfErr r (FailsWith (statement (PutRow tables.Book x)) old new)
-  row_told (Ok v) it was = tt
-  row_told (Err e) it was = elim (it.told was) [ inl failed ↦ failed | inr none ↦ absurd none.0 ]
+  pub row_reported : (r : Result (Unit {0}) Error) → IsPut r (PutRow tables.Book x) old new → old.in_transaction ≡ true → IfErr r (FailsWith (statement (PutRow tables.Book x)) old new)
+  row_reported (Ok v) it was = tt
+  row_reported (Err e) it was = elim (it.reported was) [ inl failed ↦ failed | inr none ↦ absurd none.0 ]
 
 -- ---- puts in turn
 

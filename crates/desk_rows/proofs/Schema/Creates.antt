@@ -60,6 +60,6 @@ module _ (t : FileTable) (is : (description_of t).is_written ≡ true) (old new 
     ran = ran;
     inside = ran.1.1.mode;
     kept = inside_keeps old new 0 false (description_of t).create [] (Ok ran.0) ran.1;
-    told = λ was. tt;
+    reported = λ was. tt;
   }
-  creates (Err e) ran = record { made = tt; ran = tt; inside = tt; kept = ran.0; told = ran.1 }
+  creates (Err e) ran = record { made = tt; ran = tt; inside = tt; kept = ran.0; reported = ran.1 }

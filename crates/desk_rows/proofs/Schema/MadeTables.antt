@@ -38,7 +38,7 @@ use Rattle.desk_rows.specs.Making.{AreFreeIn, Differ, MakesTables, after, creati
 use Rattle.desk_rows.specs.Puts.{put_into, statement}
 use Rattle.desk_rows.specs.Rows.{columns_of}
 use Rattle.desk_rows.specs.States.{IsUnder}
-use Rattle.desk_rows.specs.Turns.{with_transaction}
+use Rattle.desk_rows.specs.Statements.{with_transaction}
 use Rattle.desk_rows.proofs.Transactions.Committing.{shows_on}
 use Rattle.desk_rows.proofs.Transactions.Turns.{is_left, one_ran, run_then}
 

@@ -22,7 +22,7 @@ use Rattle.desk_rows.specs.Layout.{Layout}
 use Rattle.desk_rows.specs.Making.{AreFreeIn, Differ, MakesTables, after, creation, is_among, with_none, with_tables}
 use Rattle.desk_rows.specs.Puts.{puts_into, statement}
 use Rattle.desk_rows.specs.States.{IsUnder}
-use Rattle.desk_rows.specs.Turns.{with_transaction}
+use Rattle.desk_rows.specs.Statements.{with_transaction}
 use Rattle.desk_rows.proofs.Transactions.Turns.{is_left, run_then}
 use Rattle.desk_rows.proofs.Transactions.Committing.{begins, shows_on}
 use Rattle.desk_rows.proofs.Schema.MadeTables.{begins_making, keeps_row, made_empty, shows_held, through}

@@ -15,7 +15,7 @@ use Rattle.sqlite_schema.specs.declared.schema.Schema.{Schema}
 use Rattle.sqlite_catalog.specs.Listing.{IsSound}
 use Rattle.sqlite.specs.declared.error.Error.{Error}
 use Rattle.sqlite.specs.State.{State, Shown, FailsToQuery, IsUnchanged}
-use Rattle.desk_rows.specs.Fault.{IsToldAs}
+use Rattle.desk_rows.specs.Fault.{IsReportedAs}
 use Rattle.sql_tables.specs.Kinds.{HasKinds}
 use Rattle.sql_tables.specs.Tables.{IsDeclared}
 use Rattle.sql_tables.specs.States.{HasAnswer, HasTable}
@@ -60,9 +60,9 @@ not_refused (Ok a) none = tt
 not_refused (Err fault) none = λ refused. absurd (let both = sym none ∙ refused in cc)
 
 -- a fault of another cause than the store's is reported of a file that is as it was
-refused_as_it_was : (text : List ℕ) (is : reads (first text) ≡ true) (params : Row) (old new : State) (fault : DatabaseFault) → (e : Error) × FailsToQuery text params old new e × IsToldAs e fault → fault ≡ Refused → IsUnchanged old new
-refused_as_it_was text is params old new fault (e, fails_so, told) refused = elim (refused_quietly text is params old new e fails_so) [
-  | inl store ↦ absurd (subst (IsToldAs e) refused told store.0 store.1)
+refused_as_it_was : (text : List ℕ) (is : reads (first text) ≡ true) (params : Row) (old new : State) (fault : DatabaseFault) → (e : Error) × FailsToQuery text params old new e × IsReportedAs e fault → fault ≡ Refused → IsUnchanged old new
+refused_as_it_was text is params old new fault (e, fails_so, reported) refused = elim (refused_quietly text is params old new e fails_so) [
+  | inl store ↦ absurd (subst (IsReportedAs e) refused reported store.0 store.1)
   | inr same ↦ same
 ]
 
@@ -118,14 +118,14 @@ module _ {V X : Type 0} (items : V → List X) (t : FileTable) (view : X → Sho
       → (HasAnswer (query_of t).text old → old.step_limit ≡ None → ((rows : List Row) → Shown (query_of t).text [] old new rows → AllByRecursion (HasKinds (query_of t).kinds) rows)
       → ((xs : List X) → AreShownBy (query_of t) (λ x. shown_columns t (view x)) old new xs → Apart xs) → fault ≢ Refused)
       → AnswersRows (Err fault) items t view Apart old new
-  not_read told refused answered = record {
+  not_read reported refused answered = record {
     gives = tt;
     apart = tt;
     utf8 = tt;
     rows = λ tree has. tt;
     shows = λ l c there is. tt;
     unchanged = tt;
-    told = told;
+    reported = reported;
     refused = refused;
     cause = λ tree has unlimited readable apart.
         answered (table_answers t old.now.schema tree has.declared old new refl has.sound) unlimited
@@ -149,24 +149,24 @@ module _ {V X : Type 0} (items : V → List X) (t : FileTable) (view : X → Sho
         shows = λ l c there is. IfOk-weaker r _ _ (λ xs all. one_list t (columns_at (description_of t).own) (c.rows t) (map (λ x. own t (view x)) (items xs)) (old.now.trees (l.tree t)) (is.is.tables t there)
             (subst₂ IsPermutation (maps_shown t view (items xs)) (maps_own t (old.now.trees (l.tree t))) (IsPermutation-map (own_of t) _ _ all.0))) (read (l.tree t) (has_table t l c old there is));
         unchanged = on_ok r _ (shown_quietly (description_of t).read (reads_only t) [] old new rows seen);
-        told = fails_to_read (query_of t) (λ x. shown_columns t (view x)) old new rows seen r not_lost kinds begins;
+        reported = fails_to_read (query_of t) (λ x. shown_columns t (view x)) old new rows seen r not_lost kinds begins;
         refused = on_err r _ (λ fault refused. shown_quietly (description_of t).read (reads_only t) [] old new rows seen);
         answered = λ can unlimited readable apart. not_refused r (kinds (readable rows seen));
         cause = λ tree has unlimited readable apart. not_refused r (kinds (table_kinds t old.now.schema tree has.declared old new refl has.sound rows seen readable));
       }
 
-  pub fails : (fault : DatabaseFault) → (e : Error) × FailsToQuery (description_of t).read [] old new e × IsToldAs e fault → AnswersRows (Err fault) items t view AnyRows old new
+  pub fails : (fault : DatabaseFault) → (e : Error) × FailsToQuery (description_of t).read [] old new e × IsReportedAs e fault → AnswersRows (Err fault) items t view AnyRows old new
   fails fault why =
       not_read items t view AnyRows old new fault (failed why.0 why.1 why.2) (refused_as_it_was (description_of t).read (reads_only t) [] old new fault why)
       (λ can unlimited readable apart refused.
       let store = answered_fails (description_of t).read (reads_only t) old new can unlimited why.0 why.1 in
-      subst (IsToldAs why.0) refused why.2 store.0 store.1)
+      subst (IsReportedAs why.0) refused why.2 store.0 store.1)
 
 -- ---- rows that have to be apart
 
 module _ {V X : Type 0} (items : V → List X) (t : FileTable) (view : X → ShownOf t) (Apart : List X → Type 0) (old new : State) where
   still_fails : (fault : DatabaseFault) → FailsAs (query_of t) (λ x. shown_columns t (view x)) AnyRows old new fault → FailsAs (query_of t) (λ x. shown_columns t (view x)) Apart old new fault
-  still_fails fault (failed e fails told) = failed e fails told
+  still_fails fault (failed e fails reported) = failed e fails reported
   still_fails fault (unreadable rows seen not is) = unreadable rows seen not is
   still_fails fault (together xs gives not is) = absurd (not tt)
   still_fails fault (no_memory row rows seen begins is) = no_memory row rows seen begins is
@@ -179,7 +179,7 @@ module _ {V X : Type 0} (items : V → List X) (t : FileTable) (view : X → Sho
     rows = a.rows;
     shows = a.shows;
     unchanged = a.unchanged;
-    told = tt;
+    reported = tt;
     refused = tt;
     cause = λ tree has unlimited readable apart. tt;
     answered = λ can unlimited readable apart. tt;
@@ -187,7 +187,7 @@ module _ {V X : Type 0} (items : V → List X) (t : FileTable) (view : X → Sho
 
   pub still_not_read : (fault : DatabaseFault) → AnswersRows (Err fault) items t view AnyRows old new → AnswersRows (Err fault) items t view Apart old new
   still_not_read fault a =
-      not_read items t view Apart old new fault (still_fails fault a.told) a.refused (λ can unlimited readable apart. a.answered can unlimited readable (λ xs all. tt))
+      not_read items t view Apart old new fault (still_fails fault a.reported) a.refused (λ can unlimited readable apart. a.answered can unlimited readable (λ xs all. tt))
 
   pub are_together : (xs : V) → AnswersRows (Ok xs) items t view AnyRows old new → ¬ Apart (items xs) → AnswersRows (Err Refused) items t view Apart old new
   are_together xs a not =

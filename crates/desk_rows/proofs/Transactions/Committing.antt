@@ -11,7 +11,7 @@ use Rattle.desk_rows.specs.Contents.{Contents}
 use Rattle.desk_rows.specs.Layout.{Layout}
 use Rattle.desk_rows.specs.Puts.{PutsAll, Writes, puts_into}
 use Rattle.desk_rows.specs.States.{IsFile, IsUnder, ShowsContents}
-use Rattle.desk_rows.specs.Turns.{with_transaction}
+use Rattle.desk_rows.specs.Statements.{with_transaction}
 use Rattle.desk_rows.proofs.Transactions.Turns.{is_left}
 
 -- a transaction begins at what is there

@@ -12,7 +12,7 @@ use Rattle.sqlite.proofs.StateLemmas.{survives_then, survives_weaker}
 use Rattle.sql_tables.specs.States.{IsCommitted, IsSettled, IsUndone}
 use Rattle.desk_rows.specs.Ending.{Ends}
 use Rattle.desk_rows.specs.Failing.{FailsToPut, Putting, at_commit, at_put}
-use Rattle.desk_rows.specs.Turns.{with_transaction}
+use Rattle.desk_rows.specs.Statements.{with_transaction}
 
 -- what is rolled back is undone
 rolled_back : (old new : State) → IsRolledBack old new → IsUndone old new
@@ -36,11 +36,11 @@ pub commit_ends : {V : Type 0} (ran result : Result V Error) (old new : State) �
     → IfErr result (FailsToCommit old new) → Ends ran result old new
 commit_ends ran (Ok w) old new done settled ok err =
     let is : IsCommitted new = (ok.1.is_open, ok.1.committed_is ∙ sym ok.1.now_is) in
-    record { committed = (done, ok.1.now_is, is, settled is); undone = λ inside. tt; told = tt }
+    record { committed = (done, ok.1.now_is, is, settled is); undone = λ inside. tt; reported = tt }
 commit_ends ran (Err e) old new done settled ok err = record {
   committed = tt;
   undone = λ inside. rolled_back old new (commit_fails old new e err (on_ok ran done inside)).3;
-  told = inr (done, err);
+  reported = inr (done, err);
 }
 
 -- at `Ok` the connection shows what ran
@@ -62,7 +62,7 @@ module _ {S : Type 0} (g : Ghosts S) where
       → Survives (state g last) new (λ db. IsOk ran × (db ≡ (state g last).now.trees)) → OnOk ran (putting.puts old last) → OnOk ran ((state g last).in_transaction ≡ true)
       → IfErr ran (putting.stops old (state g last)) → IfErr result (FailsToPut g putting old new)
   fails_to_put putting ran (Ok w) old last new ends kept ended put inside stopped = tt
-  fails_to_put putting ran (Err e) old last new ends kept ended put inside stopped = elim ends.told [
+  fails_to_put putting ran (Err e) old last new ends kept ended put inside stopped = elim ends.reported [
     | inl it ↦ at_put last kept (IfErr-at_err (putting.stops old (state g last)) it.0 stopped) it.1
     | inr it ↦ at_commit last kept (on_ok ran it.0 put) (survives_weaker (state g last) new _ _ (λ _ db is. is.1) ended) (commit_fails (state g last) new e it.1 (on_ok ran it.0 inside))
   ]

@@ -18,7 +18,7 @@ use Rattle.desk_rows.specs.Failing.{FailsToPut, Putting, after_tables, at_commit
 use Rattle.desk_rows.specs.Fault.{CountsLoss}
 use Rattle.desk_rows.specs.Making.{creation, first_row}
 use Rattle.desk_rows.specs.Puts.{NotPut, statement}
-use Rattle.desk_rows.specs.Turns.{FailsWith, RunInTurn, Statement, Stops}
+use Rattle.desk_rows.specs.Statements.{FailsWith, RunInTurn, Statement, Stops}
 
 -- ---- one error
 
@@ -27,10 +27,10 @@ memory_alone OutOfMemory other same = other refl
 memory_alone cause other same = absurd (cc)
 
 caused : (old new : State) (e : Error) → IsCaused old new e → CountsLoss old new e
-caused old new e why is_open told = go why.0 why.1 why.2
+caused old new e why is_open reported = go why.0 why.1 why.2
   where
     go : (cause : StoreError) → e ≡ store_error cause → HasCause old new ⊤ cause → MoreFaults old.faults new.faults ⊎ (e ≡ store_error Unstorable)
-    go OutOfMemory same h = absurd (memory_alone told.0 told.1 (sym told.2 ∙ same))
+    go OutOfMemory same h = absurd (memory_alone reported.0 reported.1 (sym reported.2 ∙ same))
     go Io same h = inl h
     go Corrupt same h = inl h
     go Full same h = inl h
@@ -38,14 +38,14 @@ caused old new e why is_open told = go why.0 why.1 why.2
     go Unstorable same h = inr same
 
 failed : (it : Statement) (old new : State) (e : Error) → FailsWith it old new e → CountsLoss old new e
-failed it old new e why is_open told = elim (answered it.text it.params old new e why) [
-  | inl plain ↦ absurd (not_of_store e told.0 plain told.2)
-  | inr cause ↦ caused old new e cause is_open told
+failed it old new e why is_open reported = elim (answered it.text it.params old new e why) [
+  | inl plain ↦ absurd (not_of_store e reported.0 plain reported.2)
+  | inr cause ↦ caused old new e cause is_open reported
 ]
 
 not_put : (it : RowPut) (old new : State) (e : Error) → NotPut it old new e → CountsLoss old new e
 not_put it old new e (inl why) = failed (statement it) old new e why
-not_put it old new e (inr none) = λ is_open told. absurd (memory_alone told.0 told.1 (sym told.2 ∙ none.1))
+not_put it old new e (inr none) = λ is_open reported. absurd (memory_alone reported.0 reported.1 (sym reported.2 ∙ none.1))
 
 -- ---- in turn
 
@@ -70,13 +70,13 @@ goes_then : (a b c : State) → Goes a b → Goes b c → Goes a c
 goes_then a b c first later = (λ clean. first.0 (later.0 clean), omega (arith, first.1, later.1))
 
 later_loss : (a b c : State) (e : Error) (P : Trees → Type 0) → Survives a b P → Goes b c → Loss b c e → Loss a c e
-later_loss a b c e P first later loss clean is_open told = elim (first.closes (later.0 clean) is_open) [
-  | inl still ↦ elim (loss clean still told) [ inl more ↦ inl (more_after a.faults b.faults c.faults first.counts more) | inr big ↦ inr big ]
+later_loss a b c e P first later loss clean is_open reported = elim (first.closes (later.0 clean) is_open) [
+  | inl still ↦ elim (loss clean still reported) [ inl more ↦ inl (more_after a.faults b.faults c.faults first.counts more) | inr big ↦ inr big ]
   | inr more ↦ inl (more_before a.faults b.faults c.faults more later.1)
 ]
 
 early_loss : (a b c : State) (e : Error) → Loss a b e → Goes b c → Loss a c e
-early_loss a b c e loss later clean is_open told = elim (loss (later.0 clean) is_open told) [
+early_loss a b c e loss later clean is_open reported = elim (loss (later.0 clean) is_open reported) [
   | inl more ↦ inl (more_before a.faults b.faults c.faults more later.1)
   | inr big ↦ inr big
 ]

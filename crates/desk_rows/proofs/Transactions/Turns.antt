@@ -5,7 +5,7 @@ use Rattle.sqlite_trees.specs.declared.store.Store.{Ghosts}
 use Rattle.sqlite.specs.Held.{Held, state}
 use Rattle.sqlite.specs.Effect.{Database}
 use Rattle.sqlite.specs.State.{State, Survives}
-use Rattle.desk_rows.specs.Turns.{AreRun, IsLeftBy, Ran, RunInTurn, Statement}
+use Rattle.desk_rows.specs.Statements.{AreRun, IsLeftBy, Ran, RunInTurn, Statement}
 
 module _ {S : Type 0} (g : Ghosts S) where
   -- some ran, and then others

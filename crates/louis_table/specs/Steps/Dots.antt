@@ -51,11 +51,11 @@ are_many_of_two cells = are_many cells.0 || are_many cells.1
 module _ {A : Type 0} (is_large : A → Bool) where
   -- this value is given, or none since the value is too large
   abbrev pub Fits : Option A → A → Type 0
-  Fits (Some told) value = (value ≡ told) × (is_large value ≡ false)
+  Fits (Some reported) value = (value ≡ reported) × (is_large value ≡ false)
   Fits None value = is_large value ≡ true
 
   -- the operand spells a value, which is given unless it is too large; or it spells none
   abbrev pub ReadsDots : Result (Option A) LineFault → Option A → Type 0
-  ReadsDots (Ok told) spelled = (value : A) × (spelled ≡ Some value) × Fits told value
+  ReadsDots (Ok reported) spelled = (value : A) × (spelled ≡ Some value) × Fits reported value
   ReadsDots (Err (line_faults.Bad cause)) spelled = (spelled ≡ None) × (cause ≡ causes.BadDots)
   ReadsDots (Err line_faults.NoMemory) spelled = Unit {0}

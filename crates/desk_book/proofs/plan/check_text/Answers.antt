@@ -1,6 +1,6 @@
 use Rattle.std.proofs.Common.{◌≡◌, Some, None, refl, sym, ap, ◌∙◌}
 use Rattle.std.specs.List.{position}
-use Rattle.desk_model.specs.NormalForm.{is_barred}
+use Rattle.desk_model.specs.BookTexts.{is_barred}
 use Rattle.desk_model.proofs.Commands.TextTests.{IsUnbarred-position, IsFirstBarred-position}
 use Rattle.desk_book.proofs.plan.check_text.Goals as goal
 

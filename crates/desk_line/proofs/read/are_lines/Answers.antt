@@ -1,6 +1,6 @@
 use Rattle.std.proofs.Common.{ℕ, sym, ap, ◌∙◌, arith}
 use Rattle.louis_table.specs.Lines.{lines_of}
-use Rattle.desk_line.specs.Reading.{are_lines}
+use Rattle.desk_line.specs.ReadingSteps.{are_lines}
 use Rattle.desk_line.proofs.LineLists.{not-empty, no-line-left, line-too-long, line-taken}
 use Rattle.desk_line.proofs.read.are_lines.Goals as goal
 

@@ -1,6 +1,6 @@
 use Rattle.std.proofs.Common.{◌≡◌, length}
 use Rattle.louis_table.specs.Lines.{lines_of}
-use Rattle.desk_line.specs.Reading.{are_lines}
+use Rattle.desk_line.specs.ReadingSteps.{are_lines}
 use Rattle.desk_line.proofs.read.are_lines.Given as goal
 
 -- the lines that are left decide

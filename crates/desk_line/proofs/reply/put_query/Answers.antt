@@ -2,7 +2,7 @@ use Rattle.std.proofs.Common.{[], ◌∷◌, ◌++◌, ℕ, ap, is_ok, refl}
 use Rattle.std.specs.Prelude.{codes}
 use Rattle.std.specs.List.{flat_map}
 use Rattle.desk_ends.proofs.Sending.{Sending-first, Sending-last, Sending-no_first, fails-at}
-use Rattle.desk_line.specs.Reply.{refusal_line, refused, shown, shown_line, word_and}
+use Rattle.desk_line.specs.ReplyLines.{refusal_line, refused, shown, shown_line, word_and}
 use Rattle.desk_line.proofs.Replying.{end_text}
 use Rattle.desk_line.proofs.reply.put_query.Goals as goal
 
@@ -25,5 +25,5 @@ returns-in_ok-put-in-Ok g c =
 
 pub returns-in-Err : goal.returns-in-Err
 returns-in-Err g c =
-    let told = c.in-Err.ensures in
-    (refusal_line c.in-Err.refusal, refused c.in-Err.refusal told.0 refl, rw (told.1, told.2) at c.put_refusal.ensures)
+    let reported = c.in-Err.ensures in
+    (refusal_line c.in-Err.refusal, refused c.in-Err.refusal reported.0 refl, rw (reported.1, reported.2) at c.put_refusal.ensures)

@@ -1,6 +1,6 @@
 use Rattle.std.proofs.Common.{ℕ, [], ◌∷◌, ap, sym, ◌∙◌}
 use Rattle.desk_ends.proofs.Sending.{Transmits-same}
-use Rattle.desk_line.specs.Reply.{details}
+use Rattle.desk_line.specs.ReplyLines.{details}
 use Rattle.desk_line.proofs.Replying.{no-details, refusal-text}
 use Rattle.desk_line.proofs.reply.put_refusal.Goals as goal
 

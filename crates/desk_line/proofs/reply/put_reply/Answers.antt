@@ -2,7 +2,7 @@ use Rattle.std.proofs.Common.{ℕ, [], ◌∷◌, is_ok, subst, sym, refl, ap, �
 use Rattle.std.specs.Prelude.{codes}
 use Rattle.desk_ends.proofs.Sending.{Transmits-same}
 use Rattle.desk_line.specs.declared.answer.Answer.TheVariants.{Done}
-use Rattle.desk_line.specs.Reply.{PutsReply, word_and}
+use Rattle.desk_line.specs.ReplyLines.{PutsReply, word_and}
 use Rattle.desk_line.proofs.reply.put_reply.Goals as goal
 
 pub returns-in-None : goal.returns-in-None

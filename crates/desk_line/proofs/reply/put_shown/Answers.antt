@@ -6,7 +6,7 @@ use Rattle.desk_ends.specs.Cells.{text_of}
 use Rattle.desk_ends.proofs.Sending.{Sending-done, Sending-none, Transmits-same}
 use Rattle.desk_model.specs.Book.{Entry, Mark, Paragraph}
 use Rattle.desk_model.specs.ParagraphMarks.{marks_on}
-use Rattle.desk_line.specs.Reply.{braille, entry_line, history, list, list_line, mark_line, marks, paragraph_asked, print, shown_line, shown_text, version, where_is, whence}
+use Rattle.desk_line.specs.ReplyLines.{braille, entry_line, history, list, list_line, mark_line, marks, paragraph_asked, print, shown_line, shown_text, version, where_is, whence}
 use Rattle.desk_line.proofs.Replying.{cell-refused, no-paragraph-asked, place-refused, shown-one}
 use Rattle.desk_line.proofs.reply.put_shown.Goals as goal
 

@@ -3,7 +3,7 @@ use Rattle.std.specs.Str.{chars}
 use Rattle.std.proofs.lemmas.Str.{encodes-chars}
 use Rattle.desk_model.specs.HistoryItems.{TellsOf}
 use Rattle.desk_ends.proofs.Sending.{Transmits-same}
-use Rattle.desk_line.specs.Reply.{shown_text}
+use Rattle.desk_line.specs.ReplyLines.{shown_text}
 use Rattle.desk_line.proofs.Replying.{unnamed-fields, named-fields, undo-fields}
 use Rattle.desk_line.proofs.shown.put_entry.Goals as goal
 use Rattle.louis_table.proofs.StepLaws.{nil_from_test, not_nil_from_test}

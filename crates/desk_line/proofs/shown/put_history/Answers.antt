@@ -1,7 +1,7 @@
 use Rattle.std.proofs.Common.{ℕ, ◌++◌, subst, is_ok, true, refl, ap}
 use Rattle.desk_ends.specs.Sending.{Transmits}
 use Rattle.desk_ends.proofs.Sending.{Sending-done, Sending-fails, Sending-more, Sending-none, fails-at}
-use Rattle.desk_line.specs.Reply.{entry_line, shown_line}
+use Rattle.desk_line.specs.ReplyLines.{entry_line, shown_line}
 use Rattle.desk_line.proofs.Putting.{shown_lines}
 use Rattle.desk_line.proofs.shown.put_history.Goals as goal
 

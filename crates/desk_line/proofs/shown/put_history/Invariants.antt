@@ -1,6 +1,6 @@
 use Rattle.std.proofs.Common.{◌++◌}
 use Rattle.desk_ends.proofs.Sending.{Sending}
-use Rattle.desk_line.specs.Reply.{entry_line}
+use Rattle.desk_line.specs.ReplyLines.{entry_line}
 use Rattle.desk_line.proofs.Putting.{shown_lines}
 use Rattle.desk_line.proofs.shown.put_history.Given as goal
 

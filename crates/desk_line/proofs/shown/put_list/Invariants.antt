@@ -1,6 +1,6 @@
 use Rattle.std.proofs.Common.{◌++◌}
 use Rattle.desk_ends.proofs.Sending.{Sending}
-use Rattle.desk_line.specs.Reply.{list_line}
+use Rattle.desk_line.specs.ReplyLines.{list_line}
 use Rattle.desk_line.proofs.Putting.{shown_lines}
 use Rattle.desk_line.proofs.shown.put_list.Given as goal
 

@@ -1,6 +1,6 @@
 use Rattle.std.proofs.Common.{◌++◌, is_ok, true, refl, ap}
 use Rattle.desk_ends.proofs.Sending.{Sending-done, Sending-fails, Sending-more, Sending-none, fails-at}
-use Rattle.desk_line.specs.Reply.{mark_line, shown_line}
+use Rattle.desk_line.specs.ReplyLines.{mark_line, shown_line}
 use Rattle.desk_line.proofs.Putting.{shown_lines}
 use Rattle.desk_line.proofs.shown.put_marks.Goals as goal
 

@@ -1,6 +1,6 @@
 use Rattle.std.proofs.Common.{[], ◌∷◌, ◌∙◌, ap, List, ℕ, codes}
 use Rattle.desk_ends.proofs.Sending.{Transmits-same}
-use Rattle.desk_line.specs.Reply.{line_of}
+use Rattle.desk_line.specs.ReplyLines.{line_of}
 use Rattle.desk_line.proofs.shown.put_place.Goals as goal
 
 pub returns : goal.returns

@@ -1,6 +1,6 @@
 use Rattle.std.proofs.Common.{[], ◌∷◌, ◌++◌, codes, is_ok, refl, ap}
 use Rattle.desk_ends.proofs.Sending.{Sending-fails, Sending-first, Sending-last, Sending-more, Sending-no_first, fails-at}
-use Rattle.desk_line.specs.Reply.{shown_text}
+use Rattle.desk_line.specs.ReplyLines.{shown_text}
 use Rattle.desk_line.proofs.Putting.{framed}
 use Rattle.desk_line.proofs.shown.put_print.Goals as goal
 

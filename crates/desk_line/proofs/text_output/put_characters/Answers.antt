@@ -3,7 +3,7 @@ use Rattle.std.proofs.lemmas.List.{drop_more}
 use Rattle.std.proofs.Math.ListN.{drop_of_length-le}
 use Rattle.std.specs.Char.{encode_utf8}
 use Rattle.desk_ends.proofs.Sending.{Sending-done, Sending-fails, Sending-more, fails-at}
-use Rattle.desk_line.specs.Reply.{shown_text}
+use Rattle.desk_line.specs.ReplyLines.{shown_text}
 use Rattle.desk_line.proofs.text_output.put_characters.Goals as goal
 
 pub returns-in_err-put_character : goal.returns-in_err-put_character

@@ -1,6 +1,6 @@
 use Rattle.std.proofs.Common.{◌++◌, drop}
 use Rattle.desk_ends.proofs.Sending.{Sending}
-use Rattle.desk_line.specs.Reply.{shown_text}
+use Rattle.desk_line.specs.ReplyLines.{shown_text}
 use Rattle.desk_line.proofs.text_output.put_characters.Given as goal
 
 abbrev pub invariant-loop-character : goal.invariant-loop-character

@@ -1,7 +1,7 @@
 use Rattle.std.proofs.Common.{◌∷◌, ◌++◌, codes, drop}
 use Rattle.std.specs.Prelude.{map}
 use Rattle.desk_ends.proofs.Sending.{Sending}
-use Rattle.desk_line.specs.Reply.{line_of}
+use Rattle.desk_line.specs.ReplyLines.{line_of}
 use Rattle.desk_line.proofs.Putting.{ended}
 use Rattle.desk_line.proofs.text_output.put_fields.Given as goal
 

@@ -1,7 +1,7 @@
 use Rattle.std.proofs.Common.{◌++◌, drop}
 use Rattle.std.specs.Prelude.{decimal}
 use Rattle.desk_ends.proofs.Sending.{Sending}
-use Rattle.desk_line.specs.Reply.{word_and}
+use Rattle.desk_line.specs.ReplyLines.{word_and}
 use Rattle.desk_line.proofs.Putting.{ended}
 use Rattle.desk_line.proofs.text_output.put_line.Given as goal
 

@@ -1,7 +1,7 @@
 use Rattle.std.proofs.Common.{◌≡◌, List, ℕ, ◌++◌, rules, ap, ◌∙◌, not, filter, chars}
 use Rattle.std.proofs.lemmas.Str.{chars_from_encodes}
 use Rattle.unicode_normalization.specs.Forms.{nfc}
-use Rattle.desk_model.specs.NormalForm.{is_barred}
+use Rattle.desk_model.specs.BookTexts.{is_barred}
 use Rattle.desk_memory.proofs.texts.normal_form.Goals as goal
 
 pub returns : goal.returns

@@ -7,7 +7,7 @@ use Rattle.desk_model.specs.Damage.{IsDamagedCache}
 use Rattle.desk_rebuild.specs.Faults.{IsDamagedBraille, TellsDamageOf}
 use Rattle.desk_rebuild.specs.Rows.{IsWhole, TellsDamage}
 use Rattle.desk_parts.specs.Rows.{ParaCells}
-use Rattle.desk_rebuild.proofs.FirstTables.{braille-told, braille-whole, no-braille, no-braille-told, of-table-fault, of-table-rows, on-any}
+use Rattle.desk_rebuild.proofs.FirstTables.{braille-reported, braille-whole, no-braille, no-braille-reported, of-table-fault, of-table-rows, on-any}
 use Rattle.desk_rebuild.proofs.book.give_cells.Goals.{in-Some, in-None}
 use Rattle.desk_rebuild.proofs.book.give_cells.Goals as goal
 
@@ -32,13 +32,13 @@ returns-clause-damaged c = λ tabs paras are of sound. elim c.match-cache.branch
       let damaged = IsDamagedBraille tabs paras (Some w.in-Some.rows.items) in
       let some = subst (λ given. IfErr given (TellsDamage damaged)) (sym w.given-is)
       (IfErr-weaker w.read_caches-given.result (TellsDamage (IsDamagedCache tabs paras w.in-Some.rows.items)) (TellsDamage damaged)
-      (braille-told tabs paras w.in-Some.rows.items) (w.read_caches-given.ensures.damaged tabs paras are of sound)) in
+      (braille-reported tabs paras w.in-Some.rows.items) (w.read_caches-given.ensures.damaged tabs paras are of sound)) in
       subst (λ (caches : Option (List ParaCells)). IfErr c.of_table.result (TellsDamageOf Cache (IsDamagedBraille tabs paras caches))) (sym (ap rows_of w.in-Some.is))
       (of-table-fault Cache c.match-cache.given c.of_table.result c.of_table.ensures damaged some)
   | in-None w ↦
       let damaged = IsDamagedBraille tabs paras None in
       let none = subst (λ given. IfErr given (TellsDamage damaged)) (sym w.given-is)
-      (IfErr-weaker w.made_cells-given.result (λ fault. fault ≡ NoMemory) (TellsDamage damaged) (no-braille-told tabs paras) w.made_cells-given.ensures.memory) in
+      (IfErr-weaker w.made_cells-given.result (λ fault. fault ≡ NoMemory) (TellsDamage damaged) (no-braille-reported tabs paras) w.made_cells-given.ensures.memory) in
       subst (λ (caches : Option (List ParaCells)). IfErr c.of_table.result (TellsDamageOf Cache (IsDamagedBraille tabs paras caches))) (sym (ap rows_of w.in-None.is))
       (of-table-fault Cache c.match-cache.given c.of_table.result c.of_table.ensures damaged none)
 ]

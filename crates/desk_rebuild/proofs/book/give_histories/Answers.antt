@@ -34,7 +34,7 @@ returns-clause-same c =
 
 pub returns-clause-damaged : goal.returns-clause-damaged
 returns-clause-damaged c = λ paras of.
-    let told = of-table-fault c.table-table.result c.read_entries.result c.of_table.result c.of_table.ensures
+    let reported = of-table-fault c.table-table.result c.read_entries.result c.of_table.result c.of_table.ensures
     (IsDamagedEntries paras (entries_in (entry_rows c.args.entries)))
     (subst (λ (rows : List NamedCorr). IfErr c.read_entries.result (TellsDamage (IsDamagedEntries paras rows))) c.in_ok-rows.ensures (c.read_entries.ensures.damaged paras of)) in
-    subst (λ table. IfErr c.of_table.result (TellsDamageOf table (IsDamagedEntries paras (entries_in (entry_rows c.args.entries))))) c.table-table.ensures told
+    subst (λ table. IfErr c.of_table.result (TellsDamageOf table (IsDamagedEntries paras (entries_in (entry_rows c.args.entries))))) c.table-table.ensures reported

@@ -3,10 +3,9 @@ use Rattle.std.proofs.lemmas.Bool.{both_ways}
 use Rattle.std.proofs.lemmas.Int.{ints, to_z-of_z}
 use Rattle.std.proofs.lemmas.Str.{chars_from_encodes}
 use Rattle.desk_memory.specs.Histories.{IsCorrection, replaced_by}
-use Rattle.desk_model.specs.Name.{IsProofreaderName}
+use Rattle.desk_model.specs.ValidNames.{IsProofreaderName}
 use Rattle.desk_parts.specs.Rows.{Corr, NamedCorr}
-use Rattle.desk_model.specs.NormalForm.{is_barred}
-use Rattle.desk_model.specs.Characters.{AreCharacters}
+use Rattle.desk_model.specs.BookTexts.{AreCharacters, is_barred}
 use Rattle.desk_rebuild.proofs.ReadEntries.{IsCorrecting-made, barred-some, piece, unbarred-none}
 use Rattle.desk_rebuild.proofs.history.correction.Goals as goal
 use Rattle.desk_rebuild.proofs.history.correction.Goals.{then-is_some-via-then-is_some, then-is_some-via-else-is_some+then-not-is_proofreader_name}

@@ -49,11 +49,11 @@ returns-in_err-read-clause-damaged c =
     let rows = c.args.rows.items in
     let original = chars c.args.original.now in
     let at = row_at (goal.at.returns-in_err-read-clause-damaged c).In-Some in
-    let told = c.in_err-read.ensures.damaged original c.loop-row.yielded c.loop-row.invariant.0 in
+    let reported = c.in_err-read.ensures.damaged original c.loop-row.yielded c.loop-row.invariant.0 in
     let p = err_from_is_err_and c.from_residual-in_err-read.result c.from_residual-in_err-read.ensures.1 in
     let so_far = c.loop-row.invariant.1 in
     let unsound = λ (u : ¬ IsSoundNext original c.loop-row.yielded c.in-Some.row). unsound-at original rows (length c.loop-row.yielded) c.in-Some.row at (subst (λ (xs : List NamedCorr). ¬ IsSoundNext original xs c.in-Some.row) so_far u) in
-    rw p.1 (elim told [ inl refused ↦ inl (p.2 ∙ refused) | inr damaged ↦ inr (p.2 ∙ (damaged.0 ∙ ap Damaged (to_z-of_z w64 c.args.id c.ranges.id)), unsound damaged.1) ])
+    rw p.1 (elim reported [ inl refused ↦ inl (p.2 ∙ refused) | inr damaged ↦ inr (p.2 ∙ (damaged.0 ∙ ap Damaged (to_z-of_z w64 c.args.id c.ranges.id)), unsound damaged.1) ])
 
 pub returns-clause-read : goal.returns-clause-read
 returns-clause-read c =

@@ -1,7 +1,7 @@
 use Rattle.std.proofs.Common.{◌≡◌, ℕ, ◌≤◌, Bool, true, false, List, length, Option, Some, None, refl, sym, arith, position, is_some, IsTrue, not, chars}
 use Rattle.desk_rebuild.specs.Marks.{IsNoteText}
 use Rattle.desk_model.specs.Limits.{most_note}
-use Rattle.desk_model.specs.NormalForm.{is_barred}
+use Rattle.desk_model.specs.BookTexts.{is_barred}
 use Rattle.desk_model.proofs.Commands.TextTests.{IsFirstBarred-position, IsUnbarred-none, IsUnbarred-position}
 use Rattle.desk_rebuild.proofs.marks.is_note.Goals as goal
 

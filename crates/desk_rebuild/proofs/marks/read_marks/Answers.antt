@@ -16,10 +16,10 @@ pub returns-in_err-marks-clause-damaged : goal.returns-in_err-marks-clause-damag
 returns-in_err-marks-clause-damaged c = λ paras of.
     let items = c.args.items.now.items in
     let sorted = c.sort.new.rows.items in
-    let told = subst (λ items. IfErr c.marks_of.result (TellsUnsound (mark_rule items) sorted)) c.deref.ensures.value c.marks_of.ensures.damaged in
+    let reported = subst (λ items. IfErr c.marks_of.result (TellsUnsound (mark_rule items) sorted)) c.deref.ensures.value c.marks_of.ensures.damaged in
     IfErr-exit c.from_residual.result c.in_err-marks.field-0.0 (TellsDamageOf MarkTable (IsDamagedMark paras c.args.rows.items)) c.from_residual.ensures.1
     (first-of-table MarkTable c.marks_of.result (Err c.in_err-marks.field-0.0) c.in_err-marks.ensures (mark_rule items) sorted (IsDamagedMark paras c.args.rows.items)
-    (tells paras items of c.args.rows.items sorted c.sort.ensures.same c.sort.ensures.sorted) told)
+    (tells paras items of c.args.rows.items sorted c.sort.ensures.same c.sort.ensures.sorted) reported)
 
 pub give_indexes-requires-clause-there : goal.give_indexes-requires-clause-there
 give_indexes-requires-clause-there c =

@@ -1,7 +1,7 @@
 use Rattle.std.proofs.Common.{◌≡◌, ℕ, ◌≤◌, Bool, true, false, List, length, Option, Some, None, refl, sym, arith, position, is_some, IsTrue, not, chars}
 use Rattle.desk_model.specs.Damage.{IsPrintText}
 use Rattle.desk_model.specs.Limits.{most_print}
-use Rattle.desk_model.specs.NormalForm.{is_barred}
+use Rattle.desk_model.specs.BookTexts.{is_barred}
 use Rattle.desk_model.proofs.Commands.TextTests.{IsFirstBarred-position, IsUnbarred-none, IsUnbarred-position}
 use Rattle.desk_rebuild.proofs.paras.is_print.Goals as goal
 

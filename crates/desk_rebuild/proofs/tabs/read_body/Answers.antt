@@ -10,15 +10,15 @@ use Rattle.desk_rebuild.specs.declared.damage.RowsFault.{RowsFault}
 use Rattle.desk_rebuild.specs.declared.damage.RowsFault.TheVariants.{Damaged, NoMemory}
 use Rattle.desk_rebuild.proofs.tabs.read_body.Goals as goal
 
-told-at : (body : List ℕ) (id number : ℤ) → number ≡ id → (fault : ReadFault) (told : RowsFault) → IsReportedOf body fault
-    → ((bad : TableFault) → fault ≡ reading.Table bad → told ≡ Damaged number) → (fault ≡ reading.NoMemory → told ≡ NoMemory)
-    → TellsNoMeaning body id told
-told-at body id number same (reading.Table bad) told tells damage memory =
+reported-at : (body : List ℕ) (id number : ℤ) → number ≡ id → (fault : ReadFault) (reported : RowsFault) → IsReportedOf body fault
+    → ((bad : TableFault) → fault ≡ reading.Table bad → reported ≡ Damaged number) → (fault ≡ reading.NoMemory → reported ≡ NoMemory)
+    → TellsNoMeaning body id reported
+reported-at body id number same (reading.Table bad) reported tells damage memory =
     subst (TellsNoMeaning body id) (sym (damage bad refl)) (same, λ meaning means. means_or_bad body meaning bad.line bad.cause means tells)
-told-at body id number same reading.NoMemory told tells damage memory = subst (TellsNoMeaning body id) (sym (memory refl)) tt
+reported-at body id number same reading.NoMemory reported tells damage memory = subst (TellsNoMeaning body id) (sym (memory refl)) tt
 
-pub returns-in-Err-clause-told : goal.returns-in-Err-clause-told
-returns-in-Err-clause-told c =
+pub returns-in-Err-clause-reported : goal.returns-in-Err-clause-reported
+returns-in-Err-clause-reported c =
     let fits : SFits w64 c.args.id = search rules in
-    told-at c.args.body.now c.args.id _ (to_z-of_z w64 c.args.id fits) c.in-Err.fault c.fault_at.result c.in-Err.ensures.bad
+    reported-at c.args.body.now c.args.id _ (to_z-of_z w64 c.args.id fits) c.in-Err.fault c.fault_at.result c.in-Err.ensures.bad
     c.fault_at.ensures.damage c.fault_at.ensures.memory

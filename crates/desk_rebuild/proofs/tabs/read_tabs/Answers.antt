@@ -5,7 +5,7 @@ use Rattle.desk_model.specs.Damage.{IsDamagedTab}
 use Rattle.desk_rebuild.specs.Rows.{AreTables, IsWhole}
 use Rattle.desk_rebuild.specs.Tabs.{AreRead, TellsFirstUnsound, rows_of}
 use Rattle.desk_parts.specs.Rows.{StoredTab}
-use Rattle.desk_rebuild.proofs.FirstTables.{of-table-rows, read-of-table, told-of-table}
+use Rattle.desk_rebuild.proofs.FirstTables.{of-table-rows, read-of-table, reported-of-table}
 use Rattle.desk_rebuild.proofs.ReadTabs.{are-tables, tells, whole}
 use Rattle.desk_rebuild.proofs.tabs.read_tabs.Goals as goal
 
@@ -29,7 +29,7 @@ returns-clause-tables c =
 pub returns-clause-damaged : goal.returns-clause-damaged
 returns-clause-damaged c =
     let all = c.sort.new.rows.items in
-    told-of-table Tab c.tables_of.result c.of_table.result c.of_table.ensures
+    reported-of-table Tab c.tables_of.result c.of_table.result c.of_table.ensures
     (TellsFirstUnsound (rows_of all)) (IsDamagedTab (rows_of c.args.rows.items))
-    (λ fault told. tells (rows_of c.args.rows.items) (rows_of all) fault (moved c.args.rows.items all c.sort.ensures.same) c.sort.ensures.sorted told)
-    c.tables_of.ensures.told
+    (λ fault reported. tells (rows_of c.args.rows.items) (rows_of all) fault (moved c.args.rows.items all c.sort.ensures.same) c.sort.ensures.sorted reported)
+    c.tables_of.ensures.reported

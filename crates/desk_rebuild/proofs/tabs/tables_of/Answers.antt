@@ -52,12 +52,12 @@ loop-stored-preserved c =
 pub add-requires : goal.add-requires
 add-requires c = record { few = c.loop-stored.invariant.2.few }
 
-pub returns-in_err-add-clause-told : goal.returns-in_err-add-clause-told
-returns-in_err-add-clause-told c =
-    let at = (goal.at.returns-in_err-add-clause-told c).After-add in
+pub returns-in_err-add-clause-reported : goal.returns-in_err-add-clause-reported
+returns-in_err-add-clause-reported c =
+    let at = (goal.at.returns-in_err-add-clause-reported c).After-add in
     let taken = rows_of c.loop-stored.yielded in
     let left = rows_of (into_iter_items c.next.new.self) in
     let exit = err_from_is_err_and c.from_residual.result c.from_residual.ensures.1 in
     subst (λ r. IfErr r (TellsFirstUnsound (rows_of c.args.rows.items))) (sym (exit.1 ∙ ap (λ e. Err e) exit.2))
     (subst (λ rows. TellsFirstUnsound rows c.in_err-add.field-0.0) (rows_are at)
-    (first-unsound taken left c.stored.inside.row c.loop-stored.tables c.in_err-add.field-0.0 (before at) (c.in_err-add.ensures.told taken left (before at))))
+    (first-unsound taken left c.stored.inside.row c.loop-stored.tables c.in_err-add.field-0.0 (before at) (c.in_err-add.ensures.reported taken left (before at))))

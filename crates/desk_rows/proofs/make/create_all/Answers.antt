@@ -46,8 +46,8 @@ returns-clause-makes g c clean =
     let whole : take c.loop-table.table-index c.args.tables.now ≡ c.args.tables.now = take_all c.loop-table.table-index c.args.tables.now c.loop-table-test.false in
     subst (λ ts. AreMade g.S.Store ts c.args.tx.now.conn.now c.loop-table.tx.conn.now) whole (c.loop-table.invariant.made clean)
 
-pub returns-in_err-run-clause-told : goal.returns-in_err-run-clause-told
-returns-in_err-run-clause-told g c clean was =
+pub returns-in_err-run-clause-reported : goal.returns-in_err-run-clause-reported
+returns-in_err-run-clause-reported g c clean was =
     let p = err_from_is_err_and c.from_residual.result c.from_residual.ensures.1 in
     let now = seen g.S.Store c.loop-table.tx in
     let early : HasCleanDisk now = omega (arith, c.run.ensures.survives.clean) in
@@ -63,7 +63,7 @@ returns-in_err-run-clause-told g c clean was =
       stops = record {
         before = c.loop-table.tx.conn.now;
         ran = (c.loop-table.invariant.made early).1;
-        failed = (creates next written now (seen g.S.Store c.run.new.tx) (Err c.in_err-run.field-0.0) (rw c.create_text.ensures at (c.in_err-run.ensures.runs clean))).told (c.loop-table.invariant.inside early was);
+        failed = (creates next written now (seen g.S.Store c.run.new.tx) (Err c.in_err-run.field-0.0) (rw c.create_text.ensures at (c.in_err-run.ensures.runs clean))).reported (c.loop-table.invariant.inside early was);
         left = c.run.ensures.survives;
       };
       made = (c.loop-table.invariant.made early).0;

@@ -17,6 +17,6 @@ returns g c =
     c.begin-tx.ensures.begun c.make_all-ran.result c.end.result (state g.S.Store c.end.new.tx.0)
     c.make_all-ran.ensures.survives c.end.ensures.survives c.make_all-ran.ensures.put (shows_made g.S.Store old last c.begin-tx.ensures.live)
     (tables_lost g.S.Store new_tables (of_first_row g.S.Store) (first_row_lost g.S.Store))
-    c.begin-tx.ensures.settled c.make_all-ran.ensures.kept c.make_all-ran.ensures.inside c.make_all-ran.ensures.told c.end.ensures.ends
+    c.begin-tx.ensures.settled c.make_all-ran.ensures.kept c.make_all-ran.ensures.inside c.make_all-ran.ensures.reported c.end.ensures.ends
     (left_made g.S.Store old last c.begin-tx.ensures.live) in
     rw same (record { idle = c.end.ensures.ended; commits = all.0; crash = all.1 })

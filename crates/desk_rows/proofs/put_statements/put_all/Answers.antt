@@ -42,8 +42,8 @@ returns-clause-put g c clean =
       c.loop-one.invariant.put clean,
     )
 
-pub returns-in_err-put-clause-told : goal.returns-in_err-put-clause-told
-returns-in_err-put-clause-told g c clean was =
+pub returns-in_err-put-clause-reported : goal.returns-in_err-put-clause-reported
+returns-in_err-put-clause-reported g c clean was =
     let p = err_from_is_err_and c.from_residual.result c.from_residual.ensures.1 in
     let now = seen g.S.Store c.loop-one.tx in
     let early : HasCleanDisk now = omega (arith, c.put.ensures.survives.clean) in
@@ -57,7 +57,7 @@ returns-in_err-put-clause-told g c clean was =
         stops = record {
           before = c.loop-one.tx.conn.now;
           ran = (c.loop-one.invariant.put early).1;
-          failed = (c.in_err-put.ensures.put clean).told (c.loop-one.invariant.inside early was);
+          failed = (c.in_err-put.ensures.put clean).reported (c.loop-one.invariant.inside early was);
           left = c.put.ensures.survives;
         };
         put = (c.loop-one.invariant.put early).0;

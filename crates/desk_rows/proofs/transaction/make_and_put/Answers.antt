@@ -9,8 +9,8 @@ returns-clause-put g c clean =
     let early : HasCleanDisk (seen g.S.Store c.create_all.new.tx) = omega (arith, clean, c.put_all.ensures.survives.clean) in
     on_ok_weaker c.put_all.result (λ it. (c.create_all.new.tx.conn.now, c.create_all.ensures.survives, c.in_ok-create_all.ensures.makes early, c.put_all.ensures.survives, it)) (c.put_all.ensures.put clean)
 
-pub returns-clause-told : goal.returns-clause-told
-returns-clause-told g c clean was =
+pub returns-clause-reported : goal.returns-clause-reported
+returns-clause-reported g c clean was =
     let early : HasCleanDisk (seen g.S.Store c.create_all.new.tx) = omega (arith, clean, c.put_all.ensures.survives.clean) in
     IfErr-weaker c.put_all.result _ _ (λ e stopped. inr (c.create_all.new.tx.conn.now, c.create_all.ensures.survives, c.in_ok-create_all.ensures.makes early, c.put_all.ensures.survives, stopped))
-    (c.put_all.ensures.told clean (c.in_ok-create_all.ensures.inside early was))
+    (c.put_all.ensures.reported clean (c.in_ok-create_all.ensures.inside early was))

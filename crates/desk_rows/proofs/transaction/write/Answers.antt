@@ -15,6 +15,6 @@ returns g c =
     c.begin-tx.ensures.begun c.put_all-ran.result c.end.result (state g.S.Store c.end.new.tx.0)
     c.put_all-ran.ensures.survives c.end.ensures.survives c.put_all-ran.ensures.put (shows_items g.S.Store g.I.Iterator.next_gives c.args.puts old last)
     (items_lost g.S.Store g.I.Iterator.next_gives c.args.puts)
-    c.begin-tx.ensures.settled c.put_all-ran.ensures.kept c.put_all-ran.ensures.inside c.put_all-ran.ensures.told c.end.ensures.ends
+    c.begin-tx.ensures.settled c.put_all-ran.ensures.kept c.put_all-ran.ensures.inside c.put_all-ran.ensures.reported c.end.ensures.ends
     (left_items g.S.Store g.I.Iterator.next_gives c.args.puts old last) in
     rw same (record { idle = c.end.ensures.ended; commits = all.0; crash = all.1 })

@@ -16,6 +16,6 @@ returns g c =
     c.begin-tx.ensures.begun c.make_and_put-ran.result c.end.result (state g.S.Store c.end.new.tx.0)
     c.make_and_put-ran.ensures.survives c.end.ensures.survives c.make_and_put-ran.ensures.put (shows_grown g.S.Store c.args.tables.now g.I.Iterator.next_gives c.args.puts old last)
     (tables_lost g.S.Store c.args.tables.now (of_items g.S.Store g.I.Iterator.next_gives c.args.puts) (items_lost g.S.Store g.I.Iterator.next_gives c.args.puts))
-    c.begin-tx.ensures.settled c.make_and_put-ran.ensures.kept c.make_and_put-ran.ensures.inside c.make_and_put-ran.ensures.told c.end.ensures.ends
+    c.begin-tx.ensures.settled c.make_and_put-ran.ensures.kept c.make_and_put-ran.ensures.inside c.make_and_put-ran.ensures.reported c.end.ensures.ends
     (left_grown g.S.Store c.args.tables.now g.I.Iterator.next_gives c.args.puts old last) in
     rw same (record { idle = c.end.ensures.ended; commits = all.0; crash = all.1 })

@@ -1,5 +1,5 @@
 use Rattle.std.proofs.Common.{◌≡◌, false}
-use Rattle.desk_store.specs.Books.{shown_by}
+use Rattle.desk_store.specs.Keeping.{shown_by}
 use Rattle.desk_ends.proofs.UsedInput.{left_to_use}
 use Rattle.desk_session.specs.Service.{ends_of}
 use Rattle.desk_session.proofs.Serving.{IsServing}

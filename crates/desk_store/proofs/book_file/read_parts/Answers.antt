@@ -7,12 +7,12 @@ use Rattle.desk_store.specs.Formats.{Format, IsOfFormat, named}
 use Rattle.desk_store.specs.Found.{CanAllAnswer, format_kept}
 use Rattle.desk_store.specs.Opened.{reading}
 use Rattle.desk_store.specs.Opening.{CanAllBeRead}
-use Rattle.desk_store.specs.Reading.{ShowsReadable}
+use Rattle.desk_store.specs.ReadingSteps.{ShowsReadable}
 use Rattle.desk_store.proofs.AnyFile.{can_all_still, readable_still}
-use Rattle.desk_store.proofs.JudgedTables.{file_rows, has_books, has_its_tables, judged, kept_by_row, lacks_readable, lacks_tables, of_the_row, read_told, read_whole, refusal_is, row_is_sound, row_refuses, row_told, tables_there}
+use Rattle.desk_store.proofs.JudgedTables.{file_rows, has_books, has_its_tables, judged, kept_by_row, lacks_readable, lacks_tables, of_the_row, read_reported, read_whole, refusal_is, row_is_sound, row_refuses, row_reported, tables_there}
 use Rattle.desk_store.proofs.Opened.{as_it_was, as_listed, shows_still, stays_then}
 use Rattle.desk_store.proofs.TablesRead.{book_stops, read_in_both, reads_table, rest_stops, table_fails}
-use Rattle.desk_store.proofs.Exits.{told_is}
+use Rattle.desk_store.proofs.Exits.{reported_is}
 use Rattle.desk_store.proofs.book_file.read_parts.Goals as goal
 
 -- ---- `book` isn't read
@@ -21,32 +21,32 @@ pub returns-in_err-books-clause-unrefused : goal.returns-in_err-books-clause-unr
 returns-in_err-books-clause-unrefused g c clean book shows =
     let f = format_kept shows.rows.entries in
     let fails = table_fails g.S.Store f tables.Book c.args.conn.now (read_in_both f tables.Book _ refl tt) (c.in_err-books.ensures.answers clean) in
-    rw (told_is _ c.from_residual.ensures.1) (λ is. fails.answered (refusal_is _ is) c.requires.unlimited shows.answer)
+    rw (reported_is _ c.from_residual.ensures.1) (λ is. fails.answered (refusal_is _ is) c.requires.unlimited shows.answer)
 
 pub returns-in_err-books-clause-stops : goal.returns-in_err-books-clause-stops
 returns-in_err-books-clause-stops g c clean =
     let stops = book_stops g.S.Store c.args.conn.now (c.in_err-books.ensures.answers clean) in
-    rw (told_is _ c.from_residual.ensures.1) (λ none. reading _ stops refl)
+    rw (reported_is _ c.from_residual.ensures.1) (λ none. reading _ stops refl)
 
 -- ---- its row is refused
 
 pub returns-in_err-book-clause-unrefused : goal.returns-in_err-book-clause-unrefused
 returns-in_err-book-clause-unrefused g c clean book shows =
     let are = (reads_table named tables.Book tt (c.in_ok-books.ensures.answers clean)).given in
-    let told = rw c.deref.ensures.value at c.in_err-book.ensures.told in
-    rw (told_is _ c.from_residual-in_err-book.ensures.1) (λ is. row_is_sound _ book shows _ are c.in_err-book.field-0.0 told)
+    let reported = rw c.deref.ensures.value at c.in_err-book.ensures.reported in
+    rw (reported_is _ c.from_residual-in_err-book.ensures.1) (λ is. row_is_sound _ book shows _ are c.in_err-book.field-0.0 reported)
 
-pub returns-in_err-book-clause-told : goal.returns-in_err-book-clause-told
-returns-in_err-book-clause-told g c clean l file those was =
+pub returns-in_err-book-clause-reported : goal.returns-in_err-book-clause-reported
+returns-in_err-book-clause-reported g c clean l file those was =
     let there = has_books l file _ those was (sym c.has_table.ensures ∙ c.if-not-has_table.false) in
     let same = as_listed _ _ ((c.in_ok-books.ensures.answers clean).shows l file there was) in
-    let told = rw c.deref.ensures.value at c.in_err-book.ensures.told in
-    rw (told_is _ c.from_residual-in_err-book.ensures.1) (row_told l file _ there same c.in_err-book.field-0.0 told)
+    let reported = rw c.deref.ensures.value at c.in_err-book.ensures.reported in
+    rw (reported_is _ c.from_residual-in_err-book.ensures.1) (row_reported l file _ there same c.in_err-book.field-0.0 reported)
 
 pub returns-in_err-book-clause-stops : goal.returns-in_err-book-clause-stops
 returns-in_err-book-clause-stops g c clean =
-    rw (told_is _ c.from_residual-in_err-book.ensures.1)
-    (λ none. absurd (none (row_refuses c.deref.result.now c.in_err-book.field-0.0 c.in_err-book.ensures.told)))
+    rw (reported_is _ c.from_residual-in_err-book.ensures.1)
+    (λ none. absurd (none (row_refuses c.deref.result.now c.in_err-book.field-0.0 c.in_err-book.ensures.reported)))
 
 -- ---- a table of its format isn't there
 
@@ -57,8 +57,8 @@ returns-then-not-has_tables-clause-unrefused g c clean book shows =
     let all = has_its_tables _ book shows _ it.are _ it.is in
     λ refusal. true≢false (sym all ∙ none)
 
-pub returns-then-not-has_tables-clause-told : goal.returns-then-not-has_tables-clause-told
-returns-then-not-has_tables-clause-told g c clean l file those was =
+pub returns-then-not-has_tables-clause-reported : goal.returns-then-not-has_tables-clause-reported
+returns-then-not-has_tables-clause-reported g c clean l file those was =
     let it = judged c.has_table.ensures c.if-not-has_table.false (c.in_ok-books.ensures.answers clean) c.deref.ensures.value c.in_ok-book.ensures.book in
     lacks_tables it l file those was (tables_there it c.has_tables.ensures c.format_of-format.ensures c.if-not-has_tables.true)
 
@@ -70,16 +70,16 @@ returns-in_err-read_rest-clause-unrefused g c clean book shows =
     let it = judged c.has_table.ensures c.if-not-has_table.false answers c.deref.ensures.value c.in_ok-book.ensures.book in
     let kept = kept_by_row _ book shows _ it.are _ it.is ∙ sym c.format_of-format.ensures in
     let all = subst (λ (f : Format). CanAllAnswer f (state g.S.Store c.args.conn.now)) kept shows.answer in
-    rw (told_is _ c.from_residual-in_err-read_rest.ensures.1)
+    rw (reported_is _ c.from_residual-in_err-read_rest.ensures.1)
     (λ refusal. (c.in_err-read_rest.ensures.fails clean).answered (refusal_is _ refusal)
     (c.read_rows.ensures.survives.limit ∙ c.requires.unlimited) (can_all_still _ _ it.so_far _ all))
 
-pub returns-in_err-read_rest-clause-told : goal.returns-in_err-read_rest-clause-told
-returns-in_err-read_rest-clause-told g c clean l file those was =
+pub returns-in_err-read_rest-clause-reported : goal.returns-in_err-read_rest-clause-reported
+returns-in_err-read_rest-clause-reported g c clean l file those was =
     let answers = c.in_ok-books.ensures.answers (omega (arith, clean, c.read_rest.ensures.survives.clean)) in
     let it = judged c.has_table.ensures c.if-not-has_table.false answers c.deref.ensures.value c.in_ok-book.ensures.book in
-    rw (told_is _ c.from_residual-in_err-read_rest.ensures.1)
-    (read_told l file c.in_err-read_rest.field-0.0 (λ refused.
+    rw (reported_is _ c.from_residual-in_err-read_rest.ensures.1)
+    (read_reported l file c.in_err-read_rest.field-0.0 (λ refused.
     lacks_readable it l file those was c.requires.unlimited (λ can.
     let asked = subst (λ (f : Format). ShowsReadable f (state g.S.Store c.args.conn.now)) (sym c.format_of-format.ensures) can in
     ((c.in_err-read_rest.ensures.fails clean).refused refused).1 (readable_still _ _ it.so_far _ c.read_rows.ensures.survives.limit asked))))
@@ -87,7 +87,7 @@ returns-in_err-read_rest-clause-told g c clean l file those was =
 pub returns-in_err-read_rest-clause-refused : goal.returns-in_err-read_rest-clause-refused
 returns-in_err-read_rest-clause-refused g c clean =
     let answers = c.in_ok-books.ensures.answers (omega (arith, clean, c.read_rest.ensures.survives.clean)) in
-    rw (told_is _ c.from_residual-in_err-read_rest.ensures.1)
+    rw (reported_is _ c.from_residual-in_err-read_rest.ensures.1)
     (λ refusal. stays_then _ _ _ (as_it_was _ _ answers.unchanged) ((c.in_err-read_rest.ensures.fails clean).refused (refusal_is _ refusal)).0)
 
 pub returns-in_err-read_rest-clause-stops : goal.returns-in_err-read_rest-clause-stops
@@ -95,7 +95,7 @@ returns-in_err-read_rest-clause-stops g c clean =
     let answers = c.in_ok-books.ensures.answers (omega (arith, clean, c.read_rest.ensures.survives.clean)) in
     let it = judged c.has_table.ensures c.if-not-has_table.false answers c.deref.ensures.value c.in_ok-book.ensures.book in
     let stops = rest_stops g.S.Store c.args.conn.now c.read_rows.new.conn _ _ it.so_far it.are it.is c.format_of-format.ensures (c.in_err-read_rest.ensures.fails clean) in
-    rw (told_is _ c.from_residual-in_err-read_rest.ensures.1) (λ none. reading _ stops refl)
+    rw (reported_is _ c.from_residual-in_err-read_rest.ensures.1) (λ none. reading _ stops refl)
 
 -- ---- all of it is read
 

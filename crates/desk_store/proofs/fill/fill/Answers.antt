@@ -3,7 +3,7 @@ use Rattle.sqlite.specs.Held.{state}
 use Rattle.desk_parts.specs.declared.file_table.FileTable.{FileTable}
 use Rattle.desk_parts.specs.Puts.{LendsFirst}
 use Rattle.desk_rows.specs.Failing.{FailsToChange, of_items}
-use Rattle.desk_rows.specs.Turns.{with_transaction}
+use Rattle.desk_rows.specs.Statements.{with_transaction}
 use Rattle.desk_rows.specs.States.{ShowsContents}
 use Rattle.desk_store.proofs.BookPuts.{left_made, shown_made}
 use Rattle.desk_store.proofs.Filled.{are_written, crash_gained, gains, left_filled}
@@ -34,7 +34,7 @@ returns-in-Ok-clause-fills g c =
           let run = (shown_made g.S.Store puts old tables new (c.in-Ok.ensures.commits clean).shown).1 in
           (run.0, (tables, puts, (c.file_tables.ensures, c.filling.ensures), run.1), run.2);
       left = left_filled g.S.Store c.args.tables c.args.book.now puts c.filling.ensures tables c.file_tables.ensures old new c.write_with_tables.ensures.crash;
-      told = tt;
+      reported = tt;
       stops = λ clean. tt;
     }
 
@@ -50,7 +50,7 @@ returns-in-Err-clause-fills g c =
           (λ db left. (left_made g.S.Store puts old tables db left).0) c.write_with_tables.ensures.crash;
       ran = λ clean. tt;
       left = left_filled g.S.Store c.args.tables c.args.book.now puts c.filling.ensures tables c.file_tables.ensures old new c.write_with_tables.ensures.crash;
-      told = c.stopped_by.ensures.not_refused;
+      reported = c.stopped_by.ensures.not_refused;
       stops = λ clean. (
         c.args.tables,
         refl,
@@ -60,9 +60,9 @@ returns-in-Err-clause-fills g c =
           error = c.in-Err.error;
           fails = subst (λ (made : List FileTable). FailsToChange g.S.Store made (of_items g.S.Store LendsFirst puts) (with_transaction old) new c.in-Err.error)
               c.file_tables.ensures (c.in-Err.ensures.commits clean).fails;
-          why = c.stopped_by.ensures.told.0;
-          is_caused = c.stopped_by.ensures.told.1;
-          is_told = c.stopped_by.ensures.told.2;
+          why = c.stopped_by.ensures.reported.0;
+          is_caused = c.stopped_by.ensures.reported.1;
+          is_reported = c.stopped_by.ensures.reported.2;
           as_before = (c.in-Err.ensures.commits clean).as_before;
         },
       );

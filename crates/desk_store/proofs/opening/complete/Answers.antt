@@ -1,7 +1,7 @@
 use Rattle.std.proofs.Common.{rules, [], refl}
 use Rattle.sqlite.specs.Held.{state}
-use Rattle.desk_store.specs.Opened.{which_new}
-use Rattle.desk_rows.specs.Turns.{with_transaction}
+use Rattle.desk_store.specs.Completing.{which_new}
+use Rattle.desk_rows.specs.Statements.{with_transaction}
 use Rattle.desk_rows.proofs.Transactions.Both.{on_ok_both}
 use Rattle.desk_store.proofs.GainedTables.{gains_none, leaves_gained, left_whole}
 use Rattle.desk_store.proofs.opening.complete.Goals as goal
@@ -25,7 +25,7 @@ returns-in-None-clause-fills g c =
       crash = search rules;
       ran = λ clean. (with_transaction old, ([], [], (refl, refl), refl), refl);
       left = search rules;
-      told = tt;
+      reported = tt;
       stops = λ clean. tt;
     })
 

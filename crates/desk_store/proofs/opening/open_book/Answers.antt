@@ -10,7 +10,7 @@ use Rattle.desk_model.specs.declared.fault.PartsFault.{PartsFault}
 use Rattle.desk_model.specs.declared.fault.PartsFault.TheVariants as rebuilt
 use Rattle.desk_store.specs.Opening.{IsRefusal, rebuilt_as}
 use Rattle.desk_store.specs.declared.fault.OpenFault.TheVariants.{NoMemory}
-use Rattle.desk_store.proofs.Exits.{told_is}
+use Rattle.desk_store.proofs.Exits.{reported_is}
 use Rattle.desk_store.proofs.opening.open_book.Goals as goal
 
 -- of what is reported of rows that are read only a failed allocation is no refusal
@@ -28,8 +28,8 @@ pub returns-in_err-parts-clause-opens : goal.returns-in_err-parts-clause-opens
 returns-in_err-parts-clause-opens g c make =
     let read = c.in_err-parts.ensures in
     let new = state g.S.Store c.read_parts.new.conn in
-    rw (told_is _ c.from_residual.ensures.1) (record {
-      opens = λ clean. refuses g.S.Store make c.args.conn.now c.requires.there new _ (read.unrefused clean) (read.told clean)
+    rw (reported_is _ c.from_residual.ensures.1) (record {
+      opens = λ clean. refuses g.S.Store make c.args.conn.now c.requires.there new _ (read.unrefused clean) (read.reported clean)
           (λ refusal is_open. (read.refused clean refusal).now);
       crash = leaves_nothing (state g.S.Store c.args.conn.now) new _ read.survives;
       left = λ there. leaves_nothing (state g.S.Store c.args.conn.now) new _ read.survives;
@@ -43,7 +43,7 @@ pub returns-in_err-book-clause-opens : goal.returns-in_err-book-clause-opens
 returns-in_err-book-clause-opens g c make =
     let quiet = c.read_parts.ensures.survives in
     let new = state g.S.Store c.read_parts.new.conn in
-    rw (told_is _ c.from_residual-in_err-book.ensures.1) (record {
+    rw (reported_is _ c.from_residual-in_err-book.ensures.1) (record {
       opens = λ clean. refuses_damaged g.S.Store make c.args.conn.now c.requires.there (c.in_ok-parts.ensures.read clean) _ c.in_err-book.ensures.damaged;
       crash = leaves_nothing (state g.S.Store c.args.conn.now) new _ quiet;
       left = λ there. leaves_nothing (state g.S.Store c.args.conn.now) new _ quiet;
@@ -57,9 +57,9 @@ returns-in_err-book-clause-opens g c make =
 
 pub returns-in_err-complete-clause-opens : goal.returns-in_err-complete-clause-opens
 returns-in_err-complete-clause-opens g c make =
-    let none = c.in_err-complete.ensures.fills.told in
+    let none = c.in_err-complete.ensures.fills.reported in
     let reads = c.read_parts.ensures.survives in
-    rw (told_is _ c.from_residual-in_err-complete.ensures.1) (record {
+    rw (reported_is _ c.from_residual-in_err-complete.ensures.1) (record {
       opens = λ clean. refuses g.S.Store make c.args.conn.now c.requires.there (state g.S.Store c.complete.new.conn) _ (λ book shows. none)
           (λ l contents those shows. tells_no_refusal l contents _ none) (λ refusal. absurd (none refusal));
       crash = fills g.S.Store make c.args.conn.now c.requires.there c.lacked_by-lacked.ensures c.in_ok-book.ensures.shown

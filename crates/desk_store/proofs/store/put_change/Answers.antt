@@ -5,8 +5,8 @@ use Rattle.sqlite.proofs.StateLemmas.{survives_weaker}
 use Rattle.desk_parts.specs.Puts.{LendsFirst, RowPut}
 use Rattle.desk_rows.specs.Failing.{FailsToPut, of_items}
 use Rattle.desk_rows.specs.Puts.{statement}
-use Rattle.desk_rows.specs.Turns.{AreRun, IsLeftBy, with_transaction}
-use Rattle.desk_store.specs.Books.{HoldsKept}
+use Rattle.desk_rows.specs.Statements.{AreRun, IsLeftBy, with_transaction}
+use Rattle.desk_store.specs.Keeping.{HoldsKept}
 use Rattle.desk_store.proofs.BookKeeps.{holds_next, is_kept, leaves_either}
 use Rattle.desk_store.proofs.BookPuts.{left_put, shown_put}
 use Rattle.desk_rows.proofs.Transactions.Both.{on_given_up}
@@ -40,8 +40,8 @@ returns-clause-keeps g c =
       as_before = λ clean failed. (at_given_up c.write.result _ _ (c.write.ensures.commits clean) failed).1.as_before;
     }
 
-pub returns-clause-told : goal.returns-clause-told
-returns-clause-told g c clean =
+pub returns-clause-reported : goal.returns-clause-reported
+returns-clause-reported g c clean =
     on_given_up c.write.result _ _ _ (λ e it. record {
       fails = subst (λ (puts : List RowPut). FailsToPut g.S.Store (of_items g.S.Store LendsFirst puts) (with_transaction c.args.conn.now) (state g.S.Store c.write.new.conn) e) c.puts.ensures.these it.fails;
       counts = it.lost;

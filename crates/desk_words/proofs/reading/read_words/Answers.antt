@@ -3,8 +3,8 @@ use Rattle.clap.specs.Words.{App, HasKind, IsAmong, Text, fault_of, is_simple_an
 use Rattle.clap.specs.Walk.{texts}
 use Rattle.clap.specs.declared.error.kind.ErrorKind.{ErrorKind}
 use Rattle.clap.specs.declared.error.kind.ErrorKind.TheVariants.{OutOfMemory}
-use Rattle.desk_words.specs.Commands.{whole}
-use Rattle.desk_words.specs.Reading.{IsError, IsReading}
+use Rattle.desk_words.specs.Subcommands.{whole}
+use Rattle.desk_words.specs.Words.{IsError, IsReading}
 use Rattle.desk_words.specs.declared.reading.Reading.{Reading}
 use Rattle.desk_words.specs.declared.reading.Reading.TheVariants.{Asked, Help, NoMemory, Refused}
 use Rattle.desk_words.proofs.reading.read_words.Goals as goal

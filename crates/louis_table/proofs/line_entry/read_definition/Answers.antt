@@ -37,17 +37,17 @@ returns-in_err-cells-2 c =
     let both : both_at c.args.operands.now ≡ Ok (c.character-item.result ∷ [], c.in_ok-characters.dots.now) =
     c.in_ok-characters.ensures.ok ∙ ap (λ (t : List ℕ). Ok (t, c.in_ok-characters.dots.now)) one in
     is_missing _ _ c.from_residual-in_err-cells-2.result _ c.ok_or.ensures.value c.in_err-cells-2.was c.from_residual-in_err-cells-2.ensures.1 (λ none.
-    let told = rw none at c.in_ok-cells.ensures in
-    judged c.args.table.now (Define c.args.class) c.args.operands.now (Defines c.character-item.result (record { class = c.args.class; cells = told.0 })) false false true
-    (definition_at c.args.class c.args.operands.now c.in_ok-characters.dots.now c.character-item.result both told.0 told.1)
-    (sym c.defines.ensures ∙ c.if-defines.false) refl told.2)
+    let reported = rw none at c.in_ok-cells.ensures in
+    judged c.args.table.now (Define c.args.class) c.args.operands.now (Defines c.character-item.result (record { class = c.args.class; cells = reported.0 })) false false true
+    (definition_at c.args.class c.args.operands.now c.in_ok-characters.dots.now c.character-item.result both reported.0 reported.1)
+    (sym c.defines.ensures ∙ c.if-defines.false) refl reported.2)
 
 pub returns : goal.returns
 returns c =
     let one : c.in_ok-characters.characters.items ≡ c.character-item.result ∷ [] = sym c.as_slice.ensures.value ∙ only_one _ _ c.in-len1.len_at_least c.in-len1.len_below c.character-item.is in
     let both : both_at c.args.operands.now ≡ Ok (c.character-item.result ∷ [], c.in_ok-characters.dots.now) =
     c.in_ok-characters.ensures.ok ∙ ap (λ (t : List ℕ). Ok (t, c.in_ok-characters.dots.now)) one in
-    let told = rw (is_there _ _ c.ok_or.ensures.value c.in_ok-cells-2.was) at c.in_ok-cells.ensures in
+    let reported = rw (is_there _ _ c.ok_or.ensures.value c.in_ok-cells-2.was) at c.in_ok-cells.ensures in
     judged c.args.table.now (Define c.args.class) c.args.operands.now (Defines c.character-item.result (record { class = c.args.class; cells = c.in_ok-cells-2.cells })) false false false
-    (definition_at c.args.class c.args.operands.now c.in_ok-characters.dots.now c.character-item.result both c.in_ok-cells-2.cells (told.1 ∙ ap Some told.2.0))
-    (sym c.defines.ensures ∙ c.if-defines.false) refl (sym (ap are_many told.2.0) ∙ told.2.1)
+    (definition_at c.args.class c.args.operands.now c.in_ok-characters.dots.now c.character-item.result both c.in_ok-cells-2.cells (reported.1 ∙ ap Some reported.2.0))
+    (sym c.defines.ensures ∙ c.if-defines.false) refl (sym (ap are_many reported.2.0) ∙ reported.2.1)

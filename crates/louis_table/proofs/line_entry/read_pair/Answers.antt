@@ -29,9 +29,9 @@ returns-then-is_taken c =
     sym c.as_slice.ensures.value ∙ only_two _ _ _ c.in-len2.len_at_least c.in-len2.len_below c.upper-item.is c.lower-item.is in
     let both : both_at c.args.operands.now ≡ Ok (c.upper-item.result ∷ c.lower-item.result ∷ [], c.in_ok-characters.dots.now) =
     c.in_ok-characters.ensures.ok ∙ ap (λ (t : List ℕ). Ok (t, c.in_ok-characters.dots.now)) two in
-    let told = c.in_ok-cells.ensures in
-    judged c.args.table.now UpLow c.args.operands.now (Pairs c.upper-item.result told.0.0 c.lower-item.result told.0.1) true _ _
-    (pair_at c.args.operands.now c.in_ok-characters.dots.now c.upper-item.result c.lower-item.result both told.0.0 told.0.1 told.1) (sym c.is_taken.ensures ∙ c.if-is_taken.true) refl refl
+    let reported = c.in_ok-cells.ensures in
+    judged c.args.table.now UpLow c.args.operands.now (Pairs c.upper-item.result reported.0.0 c.lower-item.result reported.0.1) true _ _
+    (pair_at c.args.operands.now c.in_ok-characters.dots.now c.upper-item.result c.lower-item.result both reported.0.0 reported.0.1 reported.1) (sym c.is_taken.ensures ∙ c.if-is_taken.true) refl refl
 
 pub returns-in_err-upper_cells : goal.returns-in_err-upper_cells
 returns-in_err-upper_cells c =
@@ -40,9 +40,9 @@ returns-in_err-upper_cells c =
     let both : both_at c.args.operands.now ≡ Ok (c.upper-item.result ∷ c.lower-item.result ∷ [], c.in_ok-characters.dots.now) =
     c.in_ok-characters.ensures.ok ∙ ap (λ (t : List ℕ). Ok (t, c.in_ok-characters.dots.now)) two in
     is_missing _ _ c.from_residual-in_err-upper_cells.result _ c.ok_or.ensures.value c.in_err-upper_cells.was c.from_residual-in_err-upper_cells.ensures.1 (λ none.
-    let told = rw none at c.in_ok-cells.ensures in
-    judged c.args.table.now UpLow c.args.operands.now (Pairs c.upper-item.result told.0.0 c.lower-item.result told.0.1) false false true
-    (pair_at c.args.operands.now c.in_ok-characters.dots.now c.upper-item.result c.lower-item.result both told.0.0 told.0.1 told.1) (sym c.is_taken.ensures ∙ c.if-is_taken.false) refl told.2)
+    let reported = rw none at c.in_ok-cells.ensures in
+    judged c.args.table.now UpLow c.args.operands.now (Pairs c.upper-item.result reported.0.0 c.lower-item.result reported.0.1) false false true
+    (pair_at c.args.operands.now c.in_ok-characters.dots.now c.upper-item.result c.lower-item.result both reported.0.0 reported.0.1 reported.1) (sym c.is_taken.ensures ∙ c.if-is_taken.false) refl reported.2)
 
 pub returns : goal.returns
 returns c =
@@ -50,9 +50,9 @@ returns c =
     sym c.as_slice.ensures.value ∙ only_two _ _ _ c.in-len2.len_at_least c.in-len2.len_below c.upper-item.is c.lower-item.is in
     let both : both_at c.args.operands.now ≡ Ok (c.upper-item.result ∷ c.lower-item.result ∷ [], c.in_ok-characters.dots.now) =
     c.in_ok-characters.ensures.ok ∙ ap (λ (t : List ℕ). Ok (t, c.in_ok-characters.dots.now)) two in
-    let told = rw (is_there _ _ c.ok_or.ensures.value c.in_ok-upper_cells.was) at c.in_ok-cells.ensures in
+    let reported = rw (is_there _ _ c.ok_or.ensures.value c.in_ok-upper_cells.was) at c.in_ok-cells.ensures in
     judged c.args.table.now UpLow c.args.operands.now (Pairs c.upper-item.result c.in_ok-upper_cells.upper_cells c.lower-item.result c.in_ok-upper_cells.lower_cells) false false false
     (pair_at c.args.operands.now c.in_ok-characters.dots.now c.upper-item.result c.lower-item.result both c.in_ok-upper_cells.upper_cells c.in_ok-upper_cells.lower_cells
-    (told.1 ∙ ap Some told.2.0))
+    (reported.1 ∙ ap Some reported.2.0))
     (sym c.is_taken.ensures ∙ c.if-is_taken.false) refl
-    (sym (ap are_many_of_two told.2.0) ∙ told.2.1)
+    (sym (ap are_many_of_two reported.2.0) ∙ reported.2.1)

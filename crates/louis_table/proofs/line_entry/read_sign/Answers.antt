@@ -28,18 +28,18 @@ returns-then-not-is_empty c =
 pub returns-in_err-cells-2 : goal.returns-in_err-cells-2
 returns-in_err-cells-2 c =
     is_missing _ _ c.from_residual-in_err-cells-2.result _ c.ok_or.ensures.value c.in_err-cells-2.was c.from_residual-in_err-cells-2.ensures.1 (λ none.
-    let told = rw none at c.in_ok-cells.ensures in
-    judged c.args.table.now (Announce c.args.sign) c.args.operands.now (Announces c.args.sign told.0) false false true
-    (sign_at c.args.sign c.args.operands.now c.next_field.result.0.now c.next_field.ensures.field told.0 (not_nil_from_test _ _ c.is_empty.ensures c.if-is_empty.false) told.1)
+    let reported = rw none at c.in_ok-cells.ensures in
+    judged c.args.table.now (Announce c.args.sign) c.args.operands.now (Announces c.args.sign reported.0) false false true
+    (sign_at c.args.sign c.args.operands.now c.next_field.result.0.now c.next_field.ensures.field reported.0 (not_nil_from_test _ _ c.is_empty.ensures c.if-is_empty.false) reported.1)
     refl
     (ap (λ (t : List ℕ). not (eqb (length t) 0)) (sym c.sign.ensures) ∙ (ap not (sym c.is_empty-2.ensures) ∙ ap not c.if-not-is_empty.false))
-    told.2)
+    reported.2)
 
 pub returns : goal.returns
 returns c =
-    let told = rw (is_there _ _ c.ok_or.ensures.value c.in_ok-cells-2.was) at c.in_ok-cells.ensures in
+    let reported = rw (is_there _ _ c.ok_or.ensures.value c.in_ok-cells-2.was) at c.in_ok-cells.ensures in
     judged c.args.table.now (Announce c.args.sign) c.args.operands.now (Announces c.args.sign c.in_ok-cells-2.cells) false false false
-    (sign_at c.args.sign c.args.operands.now c.next_field.result.0.now c.next_field.ensures.field c.in_ok-cells-2.cells (not_nil_from_test _ _ c.is_empty.ensures c.if-is_empty.false) (told.1 ∙ ap Some told.2.0))
+    (sign_at c.args.sign c.args.operands.now c.next_field.result.0.now c.next_field.ensures.field c.in_ok-cells-2.cells (not_nil_from_test _ _ c.is_empty.ensures c.if-is_empty.false) (reported.1 ∙ ap Some reported.2.0))
     refl
     (ap (λ (t : List ℕ). not (eqb (length t) 0)) (sym c.sign.ensures) ∙ (ap not (sym c.is_empty-2.ensures) ∙ ap not c.if-not-is_empty.false))
-    (sym (ap are_many told.2.0) ∙ told.2.1)
+    (sym (ap are_many reported.2.0) ∙ reported.2.1)

@@ -22,12 +22,12 @@ pub returns-in_err-check_user : goal.returns-in_err-check_user
 returns-in_err-check_user c =
     let book = c.args.self.now in
     let p = err_from_is_err_and c.from_residual.result c.from_residual.ensures.1 in
-    let told = c.in_err-check_user.ensures.undefined in
+    let reported = c.in_err-check_user.ensures.undefined in
     let at = held-at _ _ _ _ book c.self.view_is c.self.invariant c.loop-place.place c.in-Some.id c.in-Some.paragraph.now (sym c.in-Some.ensures) in
-    let first = subst (λ (t : List ℕ). IsFirstUndefined c.args.rules.now t told.0) at.1 told.3 in
+    let first = subst (λ (t : List ℕ). IsFirstUndefined c.args.rules.now t reported.0) at.1 reported.3 in
     rw (p.1, p.2) (record {
       defined = tt;
-      undefined = (c.in-Some.id, told.0, told.1, IsFirstUser-at c.args.rules.now c.args.name.now book.paragraphs c.loop-place.place told.0 (paragraph_held (c.in-Some.id, c.in-Some.paragraph.now)) at.0 c.loop-place.invariant told.2 first);
+      undefined = (c.in-Some.id, reported.0, reported.1, IsFirstUser-at c.args.rules.now c.args.name.now book.paragraphs c.loop-place.place reported.0 (paragraph_held (c.in-Some.id, c.in-Some.paragraph.now)) at.0 c.loop-place.invariant reported.2 first);
     })
 
 pub returns-clause-defined : goal.returns-clause-defined

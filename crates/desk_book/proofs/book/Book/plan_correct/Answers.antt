@@ -3,8 +3,8 @@ use Rattle.desk_book.specs.Corrections.{HaltsEntry, TakesEntry}
 use Rattle.desk_memory.specs.Histories.{IsCorrection, replaced_by}
 use Rattle.desk_model.specs.Limits.{most_print}
 use Rattle.desk_model.specs.Print.{print_of, with_replacement}
-use Rattle.desk_model.specs.Step.{replacement_by}
-use Rattle.desk_model.specs.NormalForm.{normal_form}
+use Rattle.desk_model.specs.NextBook.{replacement_by}
+use Rattle.desk_model.specs.BookTexts.{normal_form}
 use Rattle.desk_book.proofs.Plans.CorrectPlanning.{counted, halted_here, no_memory_here, planned_here, undefined_here}
 use Rattle.desk_memory.proofs.Callers.{TookFrom-correction, entry-correction}
 use Rattle.std.proofs.lemmas.Result.{IfErr-weaker, IfOk-weaker}
@@ -72,8 +72,8 @@ returns-clause-refused c =
     let printed = printed_is at.After-len-3 (put_is at.After-len-2) in
     let takes = subst (TakesEntry c.args.self.now c.in_ok-paragraph.paragraph.now) (many ∙ sym (ap length printed)) c.in_ok-check_entry.ensures.takes in
     IfErr-weaker c.entry_effect.result _ _
-    (λ told halts. undefined_here c.args.self.now c.args.id c.args.start c.args.count c.args.text.now c.args.who.now c.in_ok-check_proofreader.ensures.name c.in_ok-check_text.ensures.unbarred
-    c.in_ok-paragraph.paragraph.now c.in_ok-paragraph.rules.now c.in_ok-paragraph.ensures.found.0 c.in_ok-paragraph.ensures.found.1 span c.in_ok-print.print.items printed (short_is at.After-len-2) takes told halts) c.entry_effect.ensures.refused
+    (λ reported halts. undefined_here c.args.self.now c.args.id c.args.start c.args.count c.args.text.now c.args.who.now c.in_ok-check_proofreader.ensures.name c.in_ok-check_text.ensures.unbarred
+    c.in_ok-paragraph.paragraph.now c.in_ok-paragraph.rules.now c.in_ok-paragraph.ensures.found.0 c.in_ok-paragraph.ensures.found.1 span c.in_ok-print.print.items printed (short_is at.After-len-2) takes reported halts) c.entry_effect.ensures.refused
 
 pub returns-in_err-put-clause-refused : goal.returns-in_err-put-clause-refused
 returns-in_err-put-clause-refused c =

@@ -1,9 +1,9 @@
 use Rattle.std.proofs.Common.{◌≡◌, ◌<◌, ◌≤◌, ℕ, [], ◌∷◌, ◌++◌, length, refl, sym, ap, subst, ◌∙◌, arith}
 use Rattle.desk_model.specs.Book.{Book, Mark, new_mark}
 use Rattle.desk_model.specs.ParagraphMarks.{marks_on}
-use Rattle.desk_model.specs.Step.{next_mark, next_with_marks}
+use Rattle.desk_model.specs.NextBook.{next_mark, next_with_marks}
 use Rattle.desk_memory.specs.Room.{Suffices}
-use Rattle.desk_model.specs.Characters.{AreCharacters}
+use Rattle.desk_model.specs.BookTexts.{AreCharacters}
 use Rattle.desk_memory.proofs.Callers.{count-marks, few-on}
 use Rattle.desk_book.proofs.Plans.MarkPlanning.{accepted_mark, full_marks, full_of_versions, has_cells, long_note, marked_here, no_memory_here}
 use Rattle.desk_book.proofs.Plans.Planning.{exit}

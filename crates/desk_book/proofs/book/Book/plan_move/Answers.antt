@@ -7,7 +7,7 @@ use Rattle.desk_model.specs.Judging.{Passes}
 use Rattle.desk_memory.specs.Held.{with_id_moved}
 use Rattle.desk_book.specs.Plans.{AreThere, IsHeldFor}
 use Rattle.desk_model.specs.Named.{paragraph_before}
-use Rattle.desk_model.specs.Step.{with_move}
+use Rattle.desk_model.specs.NextBook.{with_move}
 use Rattle.desk_model.specs.Ranks.{bad_table_rank, rank}
 use Rattle.desk_model.specs.declared.refusal.Refusal.TheVariants.{NoMemory, NoParagraph, NoTable}
 use Rattle.desk_book.proofs.Held.HeldLookups.{ids_of-book, sound}
@@ -25,9 +25,9 @@ named book id anchor held found there =
 pub returns-in_err-check_anchor-clause-refused : goal.returns-in_err-check_anchor-clause-refused
 returns-in_err-check_anchor-clause-refused c =
     let command = Move c.args.id c.args.anchor in
-    let told = c.in_err-check_anchor.ensures.missing in
+    let reported = c.in_err-check_anchor.ensures.missing in
     exit _ _ _ c.from_residual-in_err-check_anchor.ensures.1
-    (no_paragraph c.args.self.now command _ (passes_to c.args.self.now command (rank NoParagraph) refl) (AreNotAllThere-cons c.args.self.now c.args.id (paragraph_before c.args.anchor) told.1) told.0)
+    (no_paragraph c.args.self.now command _ (passes_to c.args.self.now command (rank NoParagraph) refl) (AreNotAllThere-cons c.args.self.now c.args.id (paragraph_before c.args.anchor) reported.1) reported.0)
 
 pub returns-in_err-order_with_move-clause-refused : goal.returns-in_err-order_with_move-clause-refused
 returns-in_err-order_with_move-clause-refused c =

@@ -7,7 +7,7 @@ use Rattle.desk_model.specs.Book.{Book, text_of}
 use Rattle.desk_book.specs.Changes.{AreRenewed}
 use Rattle.desk_model.specs.Judging.{Passes}
 use Rattle.desk_model.specs.Limits.{most_version}
-use Rattle.desk_model.specs.Name.{IsTableName}
+use Rattle.desk_model.specs.ValidNames.{IsTableName}
 use Rattle.desk_model.specs.Ranks.{bad_table_rank, rank, untranslatable_rank}
 use Rattle.desk_model.specs.declared.refusal.Refusal.TheVariants.{Full}
 use Rattle.desk_model.specs.declared.refusal.Limit.TheVariants.{Paragraphs}
@@ -36,8 +36,8 @@ pub returns-in_err-check_users-clause-refused : goal.returns-in_err-check_users-
 returns-in_err-check_users-clause-refused c =
     let means = subst (Means c.args.text.now) (sym c.rules-rules.ensures) c.in_ok-table.ensures.means in
     let passes = judged c.args.self.now c.args.name.now c.args.text.now c.requires.name c.requires.old c.in_ok-check_version.ensures.left _ means in
-    let told = c.in_err-check_users.ensures.undefined in
-    exit _ _ _ c.from_residual-in_err-check_users.ensures.1 (untranslatable c.args.self.now c.args.name.now c.args.text.now _ means _ told.0 told.1 passes told.2 told.3)
+    let reported = c.in_err-check_users.ensures.undefined in
+    exit _ _ _ c.from_residual-in_err-check_users.ensures.1 (untranslatable c.args.self.now c.args.name.now c.args.text.now _ means _ reported.0 reported.1 passes reported.2 reported.3)
 
 pub returns-in_err-cells-clause-refused : goal.returns-in_err-cells-clause-refused
 returns-in_err-cells-clause-refused c =

@@ -13,8 +13,8 @@ use Rattle.desk_model.specs.Limits.{most_paragraphs, most_print, most_version}
 use Rattle.desk_book.specs.Plans.{IsNewParagraph, IsTurnedDown}
 use Rattle.desk_model.specs.Named.{paragraph_before}
 use Rattle.desk_memory.specs.Room.{Suffices}
-use Rattle.desk_model.specs.Step.{new_paragraph, next_id, with_paragraph}
-use Rattle.desk_model.specs.NormalForm.{normal_form}
+use Rattle.desk_model.specs.NextBook.{new_paragraph, next_id, with_paragraph}
+use Rattle.desk_model.specs.BookTexts.{normal_form}
 use Rattle.desk_model.specs.Ranks.{bad_table_rank, bad_text_rank, rank, undefined_rank, untranslatable_rank}
 use Rattle.desk_model.specs.declared.refusal.Limit.TheVariants.{Entries, Paragraphs, Tables}
 use Rattle.desk_book.proofs.Held.HeldLookups.{Contains-there, count-paragraphs, ids_of-book}
@@ -38,7 +38,7 @@ module _ (c : In_ok-held) where
       to_rank c.args.self.now command (rank NoMark) (rank TooLong) refl (past_table c.args.self.now command c.args.table.now _ anchored refl c.in_ok-held.ensures.found.found)
 
   -- where an allocation fails then
-  lacking : (r : Result Effect Refusal) → IsErrAnd r (λ told. told ≡ NoMemory) → IfErr r (IsTurnedDown c.args.self.now command)
+  lacking : (r : Result Effect Refusal) → IsErrAnd r (λ reported. reported ≡ NoMemory) → IfErr r (IsTurnedDown c.args.self.now command)
   lacking r failed = let p = err_from_is_err_and r failed in rw p.1 (no_memory c.args.self.now command p.0 (rank TooLong) refl tabled p.2)
 
   left : length (normal_form c.args.text.now) ≤ most_print → length c.args.self.now.paragraphs < most_paragraphs → c.args.self.now.version < most_version → Passes c.args.self.now None command undefined_rank

@@ -78,7 +78,7 @@ returns-clause-refused c =
     let printed = printed_is at.In_ok-undone force in
     let takes = subst (TakesEntry c.args.self.now c.in_ok-paragraph.paragraph.now) (many_is at.After-as_slice-old ∙ sym (ap length printed)) c.in_ok-check_entry.ensures.takes in
     IfErr-weaker c.entry_effect.result _ _
-    (λ told halts. undefined_here c.args.self.now c.args.id _ _ found.0 found.1 c.in-Some.number c.in-Some.correction.now force c.in_ok-undone.field-0.items printed takes told halts) c.entry_effect.ensures.refused
+    (λ reported halts. undefined_here c.args.self.now c.args.id _ _ found.0 found.1 c.in-Some.number c.in-Some.correction.now force c.in_ok-undone.field-0.items printed takes reported halts) c.entry_effect.ensures.refused
 
 pub returns-in_err-undone-clause-refused : goal.returns-in_err-undone-clause-refused
 returns-in_err-undone-clause-refused c =

@@ -1,6 +1,6 @@
 use Rattle.std.proofs.Common.{ap, sym, ◌∙◌}
 use Rattle.desk_line.specs.Fields.{fields_in_rest}
-use Rattle.desk_line.specs.Reading.{first_and_others}
+use Rattle.desk_line.specs.ReadingSteps.{first_and_others}
 use Rattle.desk_line.proofs.fields.Fields.split.Goals as goal
 
 pub returns : goal.returns

@@ -2,7 +2,7 @@ use Rattle.std.proofs.Common.{◌≡◌, ◌+◌, ◌≤◌, [], ◌∷◌, leng
 use Rattle.desk_memory.specs.Histories.{entry_held}
 use Rattle.desk_memory.specs.ItemsLeft.{entries_from}
 use Rattle.desk_memory.proofs.WalkedLists.{lent-past, lent-there}
-use Rattle.desk_memory.proofs.ToldEntries.{entries-past, entries-there}
+use Rattle.desk_memory.proofs.ReportedEntries.{entries-past, entries-there}
 use Rattle.desk_memory.proofs.history_items.HistoryIterator.next.Goals as goal
 
 pub returns-in_err-entry-clause-steps : goal.returns-in_err-entry-clause-steps
@@ -24,7 +24,7 @@ pub returns-clause-steps : goal.returns-clause-steps
 returns-clause-steps c =
     let entries = c.self.inside.entries.now in
     let there = lent-there entries c.self.inside.at c.get.result c.get.ensures.lookup c.in_ok-entry.entry c.in_ok-entry.was in
-    ((c.self.inside.at + 1, entry_held c.in_ok-entry.entry.now), sym c.self.view_is ∙ (entries-there entries c.self.inside.at c.in_ok-entry.entry.now there).0, refl, c.told_of.ensures)
+    ((c.self.inside.at + 1, entry_held c.in_ok-entry.entry.now), sym c.self.view_is ∙ (entries-there entries c.self.inside.at c.in_ok-entry.entry.now there).0, refl, c.reported_of.ensures)
 
 pub returns-clause-goes : goal.returns-clause-goes
 returns-clause-goes c =

@@ -1,6 +1,6 @@
 use Rattle.std.proofs.Common.{◌≡◌, ◌==◌, cond, false, true, not, sym, ap, ◌∙◌, filter}
 use Rattle.desk_memory.specs.Held.{ids, with_id}
-use Rattle.desk_model.specs.Step.{is_after}
+use Rattle.desk_model.specs.NextBook.{is_after}
 use Rattle.desk_memory.proofs.Arranging.{ids-shown}
 use Rattle.desk_memory.proofs.paragraphs.Paragraphs.order_with_move.Goals as goal
 

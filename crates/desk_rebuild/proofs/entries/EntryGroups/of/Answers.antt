@@ -40,12 +40,12 @@ pub loop-row-preserved : goal.loop-row-preserved
 loop-row-preserved c =
     let view : c.row-inside.inside.0.0.para ≡ c.in-Some.row.entry.para = ap (λ (x : Inside). x.entry.para) c.row-inside.view_is ∙ ap (λ (r : NamedCorr). r.entry.para) c.row.view_is in
     let same : to_z w64 (of_z w64 c.row-inside.inside.0.0.para) ≡ c.in-Some.row.entry.para = (let own : to_z w64 (of_z w64 c.row-inside.inside.0.0.para) ≡ c.row-inside.inside.0.0.para = omega (arith, ints, c.row-inside.ranges) in own ∙ view) in
-    let told : to_z w64 (of_z w64 c.smaller.result) ≡ c.smaller.result = omega (arith, ints, c.smaller.type_inv) in
+    let reported : to_z w64 (of_z w64 c.smaller.result) ≡ c.smaller.result = omega (arith, ints, c.smaller.type_inv) in
     let nowhere : ¬ IsWithin 1 c.args.count c.in-Some.row.entry.para = subst (λ (z : ℤ). ¬ IsWithin 1 c.args.count z) same c.in-None-index_of.ensures.nowhere in
     let one = subst (λ (z : ℤ). (c.smaller.result ≡ z) ⊎ (c.loop-row.stray ≡ Some c.smaller.result)) same c.smaller.ensures.one in
     let least = subst (λ (z : ℤ). c.smaller.result ≤ℤ z) same c.smaller.ensures.least in (
       grouped-stray c.args.count c.loop-row.yielded _ c.in-Some.row c.loop-row.invariant.0 nowhere,
-      subst (λ (z : ℤ). IsFirstStray c.args.count (c.loop-row.yielded ++ c.in-Some.row ∷ []) (Some z)) (sym told)
+      subst (λ (z : ℤ). IsFirstStray c.args.count (c.loop-row.yielded ++ c.in-Some.row ∷ []) (Some z)) (sym reported)
           (stray-more c.args.count c.loop-row.yielded c.in-Some.row c.loop-row.stray c.smaller.result nowhere c.loop-row.invariant.1 one least c.smaller.ensures.before),
       All-push (HasUtf8Texts tables.NamedCorr) c.loop-row.yielded c.in-Some.row c.loop-row.invariant.2 (texts c.in-Some.row c.row-inside.inside.0.0.body c.row.inside.who
           (ap (λ (x : Inside). x.entry.body) c.row-inside.view_is ∙ ap (λ (r : NamedCorr). r.entry.body) c.row.view_is) (ap (λ (r : NamedCorr). r.who) c.row.view_is)),

@@ -1,6 +1,6 @@
 use Rattle.std.proofs.Common.{true, false, subst}
 use Rattle.sqlite.specs.Held.{state}
-use Rattle.desk_store.specs.Books.{KeepsChange, Store}
+use Rattle.desk_store.specs.Keeping.{KeepsChange, Store}
 use Rattle.desk_store.proofs.store.Store.keep.Goals as goal
 
 pub returns-in-Ok-clause-keeps : goal.returns-in-Ok-clause-keeps
