@@ -177,6 +177,7 @@ _ODT_NAMES = " ".join(
         ("table", "table"),
         ("draw", "drawing"),
         ("svg", "svg-compatible"),
+        ("fo", "xsl-fo-compatible"),
     )
 )
 _LOEXT = (

@@ -1,5 +1,11 @@
 """Texts in Markdown with tags of HTML in them, and with what they say about themselves."""
 
+import time
+from collections.abc import Callable
+
+import pytest
+
+from braildesk.desk.documents import markdown_notes, raw_html, sheets
 from braildesk.desk.documents.document import read_document
 from braildesk.desk.documents.kinds import ManuscriptKind
 from braildesk.desk.documents.reading import LossKind, Manuscript, Missing
@@ -26,6 +32,7 @@ def test_what_tags_of_html_lose_is_noted_as_that_of_markdown_is() -> None:
     found = read("A <b>bold <i>*old*</i></b> 2<sup>32</sup> and H<sub>2</sub>O.</b>\n")
     assert found.texts == ["A bold old 232 and H2O."]
     assert lost(found) == [
+        (LossKind.RAW, "</b>"),
         (LossKind.EMPHASIS, "old"),
         (LossKind.EMPHASIS, "old"),
         (LossKind.EMPHASIS, "bold old"),
@@ -51,7 +58,28 @@ def test_a_tag_that_html_does_not_have_is_a_piece_that_is_left_out() -> None:
         "Type <name>, <span>not</span> `<name>`.\n\n<your_street>\n\nBye </name>.\n"
     )
     assert found.texts == ["Type , not <name>.", "Bye ."]
-    assert lost(found) == [(LossKind.RAW, "<name>"), (LossKind.RAW, "<your_street>")]
+    assert lost(found) == [
+        (LossKind.RAW, "<name>"),
+        (LossKind.RAW, "<your_street>"),
+        (LossKind.RAW, "</name>"),
+    ]
+
+
+def test_an_end_without_a_front_and_words_in_a_tag_are_pieces_that_are_left_out() -> (
+    None
+):
+    found = read(
+        "Bold ends by </i>, <b>so</b> and so</br>on.\n\n</div>\n\n<table border=0 hidden>"
+        "<tr><td>\n\nA\n\n</td></tr></table>\n\nIf a <b and c> d, e </b and f> g, <i> h\n"
+    )
+    assert found.texts == ["Bold ends by , so and so", "on.", "A", "If a d, e g, h"]
+    assert [words for what, words in lost(found) if what is LossKind.RAW] == [
+        "</i>",
+        "</div>",
+        "<b and c>",
+        "</b and f>",
+    ]
+    assert (LossKind.EMPHASIS, "h") in lost(found)
 
 
 def test_what_a_text_says_about_itself_is_typed_or_missing() -> None:
@@ -61,3 +89,55 @@ def test_what_a_text_says_about_itself_is_typed_or_missing() -> None:
     )
     assert found.texts == ["The Moon", "Anna", "Text that is a wide page"]
     assert found.missing == (Missing("wide page", "", ""),)
+
+
+def test_a_note_to_which_several_numbers_lead_is_typed_once() -> None:
+    found = read(
+        "One[^a], two[^b] and^[Ibid.] again[^a].\n\nThree[^a]^[Ibid.][^c][^d].\n\n"
+        "    [^a]: a moon\n\n```\n[^b]: a sea\n```\n\n"
+        '[^a]: "Very *far*."\n\n    Indeed.\n\n[^b]: Ibid.\n[^c]: Ibid.\n[^d]: once\n'
+    )
+    assert found.texts == [
+        "One[1], two[2] and[3] again[1].",
+        "[1: “Very far.” Indeed.]",
+        "[2: Ibid.]",
+        "[3: Ibid.]",
+        "Three[1][4][5][6].",
+        "[4: Ibid.]",
+        "[5: Ibid.]",
+        "[6: once]",
+        "[^a]: a moon",
+        "[^b]: a sea",
+    ]
+    assert lost(found) == [(LossKind.EMPHASIS, "far")]
+
+
+def test_a_number_of_a_note_before_a_colon_leads_to_it_as_others_do() -> None:
+    found = read("One[^a] and two[^a]: three[^b].\n\n[^a]: far\n[^b]: near\n")
+    assert found.texts == ["One[1] and two[1]: three[2].", "[1: far]", "[2: near]"]
+
+
+@pytest.mark.parametrize(
+    "look, piece",
+    [
+        (markdown_notes.with_marks, "[^"),
+        (raw_html.RawHtml, "</a"),
+        (lambda text: sheets.imports_of(f"@import 'a' {text}"), "layer("),
+    ],
+)
+def test_what_nothing_ends_is_looked_for_in_a_time_that_grows_as_the_text_does(
+    look: Callable[[str], object], piece: str
+) -> None:
+    def taken(count: int) -> float:
+        start = time.process_time()
+        look(f"<!--{piece * count}-->")
+        return time.process_time() - start
+
+    # each of them was looked for up to the end of the text
+    assert taken(10_000) < 30 * max(taken(1_000), 0.002)
+
+
+def test_a_note_that_is_typed_after_each_of_its_numbers_is_noted() -> None:
+    found = read("One[^a] and two[^a].\n\n[^a]: - far\n    - near\n")
+    assert found.texts[0] == "One[1] and two[2]."
+    assert lost(found) == [(LossKind.NOTE_AGAIN, "[^a]: - far")]

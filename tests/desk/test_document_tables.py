@@ -1,12 +1,16 @@
 """Tables of pages and of texts in ODT, whose cells may go on over rows and columns."""
 
+import zipfile
+from io import BytesIO
 from pathlib import Path
 
 import pytest
 
 from braildesk.desk.documents.document import read_document
-from braildesk.desk.documents.kinds import ManuscriptKind
+from braildesk.desk.documents.kinds import ManuscriptKind, NoDocument, WhyNot
+from braildesk.desk.documents.numbers_of_odt import with_odt_numbers
 from braildesk.desk.documents.reading import LossKind, Manuscript
+from braildesk.desk.documents.table_places import MOST_EMPTY, Places, TableSize
 from braildesk.desk.manuscripts import read_manuscript
 
 from handmade import odt
@@ -94,3 +98,79 @@ def test_cells_of_a_text_in_odt_that_go_on_over_rows_have_a_place_in_each(
     assert [each.rstrip("; ") for each in found.texts] == SHOWN
     assert found.missing == ()
     assert spans(found) == ["h", "b", "g", "n"]
+
+
+#: Tables of few characters that have a million places.
+HUGE_TABLES = [
+    row(*[cell("a", 1_000)] * 1_000) + row(covered(1_000)) * 999,
+    row(*[cell("a")] * 1_000) + row(cell("b")) * 1_000,
+]
+
+
+@pytest.mark.parametrize("text", HUGE_TABLES)
+def test_a_text_in_odt_of_tables_with_far_more_places_than_cells_is_refused(
+    tmp_path: Path, text: str
+) -> None:
+    path = odt(tmp_path / "a.odt", f"<table:table>{text}</table:table>")
+    with pytest.raises(NoDocument) as found:
+        read_manuscript(path)
+    assert found.value.why is WhyNot.TABLES
+
+
+@pytest.mark.parametrize(
+    "rows",
+    [
+        f"<tr>{'<td rowspan=1000>x' * 1_000}" + "<tr><td>y" * 999,
+        f"<tr>{'<td colspan=1000>x' * 1_000}",
+        f"<td colspan=1000>x{'<tr><td>y' * 1_000}",
+        f"<tr>{'<td>x' * 1_000}<td><table><td>z</table>{'<tr><td>y' * 1_000}",
+    ],
+)
+def test_a_page_of_tables_with_far_more_places_than_cells_is_refused(rows: str) -> None:
+    with pytest.raises(NoDocument) as found:
+        page = f"<html><table>{rows}</table></html>"
+        read_document(page.encode(), ManuscriptKind.HTML)
+    assert found.value.why is WhyNot.TABLES
+
+
+@pytest.mark.parametrize(
+    "width",
+    [
+        "COLSPAN = '100000'",
+        "colspan=100000 colspan=2",
+        "colspan=' 100000'",
+        "colspan=&#49;00000",
+        'colspan="100000"title="x"',
+    ],
+)
+def test_a_cell_of_a_page_has_no_more_columns_than_where_pages_are_shown(
+    width: str,
+) -> None:
+    page = f"<html><table><tr><td {width}>x<tr><td>y</table></html>"
+    found = read_document(page.encode(), ManuscriptKind.HTML)
+    assert [each.rstrip("; ") for each in found.texts] == ["x", "y"]
+
+
+def test_all_tables_of_a_document_have_so_many_empty_places_and_any_cells() -> None:
+    places = Places()
+    for _ in range(2):
+        size = TableSize(places)
+        for _ in range(500):
+            size.begin_row()
+            for _ in range(500):
+                size.add_cell()
+        size.begin_row()
+        size.add_empty(500)
+    size = TableSize(places)
+    size.add_cell(MOST_EMPTY - 999)
+    with pytest.raises(NoDocument):
+        size.add_cell(2)
+
+
+def test_pandoc_gets_no_cells_that_others_cover(tmp_path: Path) -> None:
+    # it leaves them out itself, in a time that grows far faster than their number
+    text = row(cell("a"), *[covered(1_000)] * 1_000)
+    path = odt(tmp_path / "a.odt", f"<table:table>{text}</table:table>")
+    written, _ = with_odt_numbers(path.read_bytes(), "-", "[]")
+    with zipfile.ZipFile(BytesIO(written)) as container:
+        assert b"covered" not in container.read("content.xml")

@@ -10,14 +10,14 @@ import zipfile
 from collections.abc import Callable
 from io import BytesIO
 from pathlib import Path
+from xml.etree import ElementTree
 
 import pytest
 
-from braildesk.desk.documents import contents, kinds, pandoc
+from braildesk.desk.documents import contents, kinds, pandoc, styles_of_odt
 from braildesk.desk.documents.contents import missing
 from braildesk.desk.documents.document import read_document
 from braildesk.desk.documents.kinds import (
-    BrokenOff,
     ManuscriptKind,
     NoConverter,
     NoDocument,
@@ -39,6 +39,7 @@ from braildesk.desk.documents.reading import (
     short_enough,
 )
 from braildesk.desk.documents.tree import Node, document
+from braildesk.desk.manuscript import UnreadableText
 from braildesk.desk.manuscripts import read_manuscript
 from braildesk.desk.replacements import Replacer
 from scribe.words.import_text import unreadable
@@ -574,12 +575,16 @@ def test_what_markdown_takes_for_the_address_of_a_link_is_missing_if_it_is_none(
 ) -> None:
     path = tmp_path / "play.md"
     path.write_text(
-        "A [Moon] and the [Sea][s].\n\n[moon]: http://x.y 'The moon'\n[S]: <a b> {.c}\n\n"
+        "A [Moon] and the [Sea][s].\n\nA [far\nmoon] too.\n\n[Far Moon]: http://z/q\n\n[moon]: http://x.y 'The moon'\n[S]: <a b> {.c}\n\n"
         "[Anna]: I don't *know* it.\n\n[Bob]: Yes.\n\n[Bob] goes, and\n[Eve]: too.\n\n"
         "[Bob]: I go, too.\n"
     )
     found = read_manuscript(path)
-    assert found.texts == ["A Moon and the Sea.", "Bob goes, and [Eve]: too."]
+    assert found.texts == [
+        "A Moon and the Sea.",
+        "A far moon too.",
+        "Bob goes, and [Eve]: too.",
+    ]
     assert found.missing == (
         Missing("I don't know it", "", ""),
         Missing("I go", "", "too"),
@@ -935,6 +940,180 @@ def test_a_sheet_to_which_many_pages_link_is_read_once(
     assert parts.count("styles/a sheet.css") == 1
 
 
+def test_what_a_text_in_odt_computes_is_typed_as_it_is_shown(tmp_path: Path) -> None:
+    text = (
+        "<text:p>On <text:date>3 May</text:date>, in “<text:chapter>The &amp; Sea"
+        '</text:chapter>”, <text:variable-set text:display="none">7</text:variable-set> '
+        "<text:expression>12</text:expression> of <text:page-count>9</text:page-count>.</text:p>"
+    )
+    found = read_manuscript(odt(tmp_path / "a.odt", text))
+    assert found.texts == ["On 3 May, in “The & Sea”, 12 of 9."]
+    assert [each.words for each in found.missing] == ["7"]
+
+
+def test_words_of_an_odt_that_a_condition_hides_are_missing(tmp_path: Path) -> None:
+    hidden = '<text:hidden-text text:condition="ooow:" text:string-value="Not seen"'
+    text = f"<text:p>Seen{hidden}/> or {hidden}>Not seen</text:hidden-text></text:p>"
+    found = read_manuscript(odt(tmp_path / "a.odt", text))
+    shown = "".join(found.texts)
+    words = [each.words for each in found.missing]
+    assert shown.count("Not seen") + words.count("Not seen") == 2
+
+
+def test_a_picture_in_a_table_is_found_by_the_words_before_the_table() -> None:
+    page = "<html><p>Near it.</p><table><tr><td><img src=a.png><td>x</table></html>"
+    found = read_document(page.encode(), ManuscriptKind.HTML)
+    around = [each.around for each in found.losses if each.what is LossKind.PICTURE]
+    assert around == ["Near it."]
+
+
+def test_words_in_odt_are_emphasized_by_what_their_style_is_based_on(
+    tmp_path: Path,
+) -> None:
+    def style(name: str, base: str, said: str = "") -> str:
+        properties = f"<style:text-properties {said}/>" if said else ""
+        return (
+            f'<style:style style:name="{name}" style:family="text"'
+            f' style:parent-style-name="{base}">{properties}</style:style>'
+        )
+
+    named = style("Oblique", "Round", 'fo:font-style="italic"')
+    named += style("Round", "Oblique") + style("Far", "Round") + style("Odd", "None")
+    own = style("Red", "Far", 'fo:color="#ff0000"') + style("Bare", "Red")
+    own += style("Upright", "Far", 'fo:font-style="normal"')
+    own += style("Raised", "Far", 'style:text-position="super 58%"')
+    text = "".join(
+        f'<text:p><text:span text:style-name="{name}">{name}</text:span> end</text:p>'
+        for name in ("Oblique", "Far", "Red", "Bare", "Upright", "Raised")
+    )
+    found = read_manuscript(odt(tmp_path / "a.odt", text, own, named))
+    emphasized = ["Oblique", "Far", "Red", "Bare", "Raised"]
+    assert lost(found, LossKind.EMPHASIS) == emphasized
+    assert lost(found, LossKind.SUPERSCRIPT) == ["Raised"]
+
+
+def test_each_style_of_an_odt_is_looked_at_once_however_many_are_based_on_it(
+    monkeypatch: pytest.MonkeyPatch,
+) -> None:
+    address = "urn:oasis:names:tc:opendocument:xmlns:style:1.0"
+    styles = "".join(
+        f'<s:style s:name="{n}" s:family="text" s:parent-style-name="{n + 1}"/>'
+        for n in range(100)
+    )
+    root = ElementTree.fromstring(f'<r xmlns:s="{address}">{styles}</r>')
+    looked_at: list[str | None] = []
+    emphasis = styles_of_odt._emphasis
+
+    def noted(style: ElementTree.Element) -> dict[str, str]:
+        looked_at.append(style.get(f"{{{address}}}name"))
+        return emphasis(style)
+
+    monkeypatch.setattr(styles_of_odt, "_emphasis", noted)
+    assert len(styles_of_odt.WordStyles(root).written(root)) == 100
+    assert len(looked_at) == 100
+
+
+def test_a_further_number_of_a_note_in_odt_is_that_of_the_note(tmp_path: Path) -> None:
+    def noted(name: str, shown: str) -> str:
+        inner = f"<text:note-citation>{shown}</text:note-citation><text:note-body><text:p>Of {name}."
+        return (
+            f'<text:note text:id="{name}">{inner}</text:p></text:note-body></text:note>'
+        )
+
+    def again(name: str, shown: str, form: str = "text") -> str:
+        return (
+            f'<text:note-ref text:reference-format="{form}" text:ref-name="{name}">{shown}'
+            "</text:note-ref>"
+        )
+
+    text = (
+        f"<text:p>A{noted('a', '1')} b{noted('b', 'i')} c{again('b', 'i')}, page"
+        f" {again('a', '7', 'page')}.</text:p><text:p>d {again('x', '9')}</text:p>"
+    )
+    found = read_manuscript(odt(tmp_path / "a.odt", text))
+    assert found.texts == [
+        "A[1] b[2] c[2], page 7.",
+        "[1: Of a.]",
+        "[2: Of b.]",
+        "d 9",
+    ]
+    assert found.missing == ()
+
+
+def of_sheets(path: Path, sheets: dict[str, str], head: str = "") -> Manuscript:
+    """A book of a page with two lists and a heading, of which ``a.css`` says something, and other sheets."""
+    body = "<h2>Two</h2><ol class='x'><li>One</li></ol>"
+    link = head or "<link rel='stylesheet' href='a.css'/>"
+    page = PAGE.replace("<body>", f"<head>{link}</head><body>").format(body)
+    book_of(path, "a", {"a": page.encode()})
+    with zipfile.ZipFile(path, "a") as container:
+        for name, sheet in sheets.items():
+            container.writestr(f"in/{name}", sheet)
+    return read_manuscript(path)
+
+
+NONE = "ol { list-style: none }"
+COUNT = "h2:before { content: counter(part) }"
+
+
+@pytest.mark.parametrize(
+    "sheets",
+    [
+        {"a.css": "@import 'b.css';", "b.css": NONE},
+        {
+            "a.css": "/* @import 'c.css'; */ @import url(\"b/b.css\") print;",
+            "b/b.css": NONE,
+        },
+        {"a.css": "@IMPORT url( b%20c.css );@import 'x.css'", "b c.css": NONE},
+        {
+            "a.css": "@charset 'utf-8'; @import url(b/b.css) layer(old) ;",
+            "b/b.css": "@import '../a.css'; @import 'c.css';",
+            "b/c.css": "@import 'b.css'; " + NONE,
+        },
+        {
+            "a.css": "@import 'b.css'; .x { list-style: none }",
+            "b.css": ".x { list-style: decimal }",
+        },
+    ],
+)
+def test_lists_are_noted_whose_numbers_a_sheet_hides_that_another_imports(
+    tmp_path: Path, sheets: dict[str, str]
+) -> None:
+    found = of_sheets(tmp_path / "moon.epub", sheets)
+    assert lost(found, LossKind.LIST) == ["One"]
+    assert lost(found, LossKind.SHEET) == []
+
+
+def test_a_sheet_is_imported_for_print_before_its_own_rules_and_from_a_page(
+    tmp_path: Path,
+) -> None:
+    path = tmp_path / "moon.epub"
+    sheets = {"a.css": "@import 'b.css' screen; @import 'c.css';", "b.css": NONE}
+    sheets |= {"c.css": "p { color: red } @import 'b.css';"}
+    assert lost(of_sheets(path, sheets), LossKind.LIST) == []
+    style = "<style>@import 'b.css'; @import 'd.css' all;</style>"
+    found = of_sheets(path, {"b.css": NONE, "d.css": COUNT}, style)
+    assert lost(found, LossKind.LIST) == ["One"]
+    assert lost(found, LossKind.NUMBER) == ["Two"]
+
+
+def test_sheets_that_import_others_without_end_or_have_too_many_rules_are_not_read(
+    tmp_path: Path, monkeypatch: pytest.MonkeyPatch
+) -> None:
+    monkeypatch.setattr("braildesk.desk.documents.sheets._MOST_RULES", 2)
+    path = tmp_path / "moon.epub"
+    sheets = {f"{n}.css": f"@import '{n + 1}.css';" for n in range(9)}
+    found = of_sheets(path, {"a.css": "@import '0.css';", "9.css": NONE, **sheets})
+    assert (lost(found, LossKind.LIST), lost(found, LossKind.SHEET)) == ([], ["One"])
+    sheets = {f"{n}.css": "" for n in range(99)}
+    imported = "".join(f"@import '{name}';" for name in sheets)
+    for more, why in (("", []), ("@import 'b.css';", ["One"])):
+        found = of_sheets(path, {"a.css": imported + more, "b.css": NONE, **sheets})
+        assert lost(found, LossKind.SHEET) == why
+    found = of_sheets(path, {"a.css": "@import 'b.css';", "b.css": NONE * 3})
+    assert (lost(found, LossKind.LIST), lost(found, LossKind.SHEET)) == ([], ["One"])
+
+
 @pytest.mark.parametrize("name", ["iso-8859-1", "windows-1252", "utf-8"])
 @pytest.mark.parametrize("is_so", [True, False])
 def test_a_page_that_says_in_what_it_is_encoded_has_no_word_missing(
@@ -1112,9 +1291,9 @@ def test_odt_is_taken_as_it_loses_fewer_words(tmp_path: Path, programs: Path) ->
         names = [each for each in whole.namelist() if not each.endswith(".png")]
         parts = {name: whole.read(name).decode() for name in names}
     content = parts["content.xml"]
-    # pandoc leaves out what a document computes
+    # pandoc leaves out what it doesn't know
     for lost_by_pandoc, wanted in ((" two", "One two"), ("", "One")):
-        computed = f"One<text:expression>{lost_by_pandoc}</text:expression>"
+        computed = f"One<text:unknown>{lost_by_pandoc}</text:unknown>"
         parts["content.xml"] = content.replace("One", computed)
         found = read_document(container_of(path, **parts), ManuscriptKind.ODT)
         assert (found.kind, found.texts) == (ManuscriptKind.ODT, [wanted])
@@ -1123,18 +1302,35 @@ def test_odt_is_taken_as_it_loses_fewer_words(tmp_path: Path, programs: Path) ->
 def test_a_program_that_takes_too_long_is_given_up(
     programs: Path, monkeypatch: pytest.MonkeyPatch
 ) -> None:
-    program(programs, "pandoc", "exec sleep 60")
+    def given_up(*lines: str) -> str:
+        program(programs, "pandoc", *lines)
+        with pytest.raises(UnreadableText) as found:
+            read_document(b"a", ManuscriptKind.MARKDOWN)
+        return unreadable(found.value)
+
     with monkeypatch.context() as patched:
         patched.setattr(pandoc, "_SECONDS", 0.3)
-        with pytest.raises(BrokenOff):
-            read_document(b"a", ManuscriptKind.MARKDOWN)
+        assert given_up("exec sleep 60").startswith("takes pandoc more time than any")
     for end in ("kill -KILL $$", "echo pandoc: out of memory >&2; exit 251"):
-        program(programs, "pandoc", end)
-        with pytest.raises(BrokenOff):
-            read_document(b"a", ManuscriptKind.MARKDOWN)
-    program(programs, "pandoc", "echo none")
-    with pytest.raises(NotConverted):
-        read_document(b"a", ManuscriptKind.MARKDOWN)
+        assert given_up(end).startswith("takes pandoc more memory than any book")
+    assert "nested" in given_up("echo pandoc: stack overflow >&2; exit 2")
+    assert given_up("echo none") == "can't be read by pandoc, which doesn't say why"
+
+
+@pytest.mark.parametrize(
+    "tags", [("<div>", "</div>"), ("<blockquote>", "</blockquote>")]
+)
+def test_a_page_that_is_nested_too_deeply_is_refused_before_it_is_read(
+    tmp_path: Path, programs: Path, tags: tuple[str, str]
+) -> None:
+    program(programs, "pandoc", "exit 3")
+    front, end = tags
+    page = PAGE.format(f"{front * 2_000}x{end * 2_000}").encode()
+    book = book_of(tmp_path / "moon.epub", "a", {"a": page}).read_bytes()
+    for data, kind in ((page, ManuscriptKind.HTML), (book, ManuscriptKind.EPUB)):
+        with pytest.raises(NoDocument) as found:
+            read_document(data, kind)
+        assert found.value.why is WhyNot.TOO_DEEP
 
 
 #: A document of 100,000 words takes 4 seconds, nearly all of a processor, where nothing else runs. The
@@ -1220,6 +1416,25 @@ def test_readings_on_a_page_stand_in_brackets(page: str, text: str) -> None:
     data = f"<html><p>{page}</p></html>".encode()
     found = read_document(data, ManuscriptKind.HTML)
     assert (found.texts, found.missing) == ([text], ())
+
+
+def test_a_reading_that_nothing_ends_ends_with_its_paragraph() -> None:
+    page = (
+        "<html><p>A <ruby>漢<rt>kan far</p><p>b <ruby>字<rt>ji</rt></ruby></ruby></p><table><tr>"
+        "<td><ruby>漢<rt>kan<td>c</table><ul><li>d <ruby>漢<rt>ka<br>n<li>e <ruby>漢<rt>kan</ul>f"
+        "<ruby>漢<rt>kan"
+    )
+    found = read_document(page.encode(), ManuscriptKind.HTML)
+    assert found.texts == [
+        "A 漢(kan far)",
+        "b 字(ji)",
+        "漢(kan); c",
+        "\u2022 d 漢(ka",
+        "n)",
+        "\u2022 e 漢(kan)",
+        "f漢(kan)",
+    ]
+    assert found.missing == ()
 
 
 def test_templates_on_a_page_are_no_print() -> None:

@@ -9,20 +9,36 @@ import zipfile
 from collections import Counter, deque
 from collections.abc import Callable, Collection, Iterable, Iterator, Sequence
 from dataclasses import dataclass, field
-from functools import cache, partial
+from functools import partial
 from itertools import islice
 from pathlib import PurePosixPath
-from posixpath import normpath
-from urllib.parse import unquote
 from xml.etree import ElementTree
 from xml.etree.ElementTree import Element
 
-from braildesk.desk.documents.kinds import ManuscriptKind, part_of, unpacked
-from braildesk.desk.documents.markup import Tags, characters_of_page, field_words
+from braildesk.desk.documents.kinds import (
+    ManuscriptKind,
+    NoDocument,
+    WhyNot,
+    part_of,
+    unpacked,
+)
+from braildesk.desk.documents.markup import (
+    BLOCKS,
+    Tags,
+    characters_of_page,
+    field_words,
+)
 from braildesk.desk.documents.notes import BACK
 from braildesk.desk.documents.package import Package
 from braildesk.desk.documents.reading import Loss, LossKind, Missing, plain, whole
-from braildesk.desk.documents.sheets import PageElement, Rule, Sheet, rules_of
+from braildesk.desk.documents.sheets import (
+    PageElement,
+    Rule,
+    Sheet,
+    Sheets,
+    imports_of,
+    rules_of,
+)
 from braildesk.desk.manuscript import UnreadableText
 
 #: How many characters are shown of a table of contents, of a page, or of an item of a list.
@@ -41,7 +57,6 @@ _IS_NUMBER = re.compile("decimal.*|.*-(alpha|latin|roman|greek)")
 #: Classes that many programs give to lists whose numbers are plain.
 _PLAIN_CLASSES = frozenset("arabic decimal itemized ordered orderedlist simple".split())
 _FOR_PRINT = re.compile(r"\b(all|print)\b", re.IGNORECASE)
-_IMPORT = re.compile("@import", re.IGNORECASE)
 #: In how many places a passage is looked for, of which each word may stand nearly everywhere.
 _MOST_TRIED = 1_000
 #: How many words before and after missing ones are shown.
@@ -75,6 +90,8 @@ _ODT_PARTING = tuple(
     f"{_TEXT}{name}" for name in ("s", "tab", "line-break", "note-citation")
 )
 _ODT_DELETED = f"{_TEXT}deletion"
+#: Words that are shown where something holds, else an attribute alone has them.
+_ODT_HIDDEN = f"{_TEXT}hidden-text"
 _ANNOTATION = f"{_OFFICE}annotation"
 _NUMBER = re.compile(r"[\W\d_]*")
 #: The key of a note in Markdown and its first line, and what of a text there is no print: where links
@@ -162,15 +179,20 @@ def addresses_of(text: str) -> list[str]:
     is_front = True
     for line in text.split("\n"):
         key = _KEY.match(line) if is_front else None
-        keys += [(key[1].casefold(), key[2])] if key else []
+        keys += [(_folded(key[1]), key[2])] if key else []
         is_front = bool(key) or not line.strip()
-    uses = Counter(each.casefold() for each in _IN_BRACKETS.findall(text))
+    uses = Counter(map(_folded, _IN_BRACKETS.findall(text)))
     uses.subtract(key for key, _ in keys)
     return [
         _MARKUP.sub(" ", words)
         for key, words in keys
         if uses[key] <= 0 or not _ADDRESS.fullmatch(words)
     ]
+
+
+def _folded(key: str) -> str:
+    """A key as it is compared: a line may end within it."""
+    return " ".join(key.split()).casefold()
 
 
 def missing(passages: Iterable[str], texts: Iterable[str]) -> list[Missing]:
@@ -414,11 +436,19 @@ def _odt_runs(element: Element, inner: list[Element]) -> Iterator[str]:
     for child in element:
         if child.tag in (f"{_TEXT}note-body", f"{_TEXT}p", f"{_TEXT}h"):
             inner.append(child)
-        elif child.tag in _ODT_PARTING:
+        elif child.tag in _ODT_PARTING or _is_number_again(child):
             yield " "
         elif child.tag not in (_ANNOTATION, f"{_OFFICE}binary-data"):
+            if child.tag == _ODT_HIDDEN and not child.text:
+                yield f" {child.get(f'{_TEXT}string-value', '')} "
             yield from _odt_runs(child, inner)
         yield child.tail or ""
+
+
+def _is_number_again(element: Element) -> bool:
+    """Whether an element is a further number of a note, which is typed as that of the note is."""
+    form = element.get(f"{_TEXT}reference-format", "text")
+    return element.tag == f"{_TEXT}note-ref" and form == "text"
 
 
 def _of_epub(container: zipfile.ZipFile, found: Contents) -> None:
@@ -426,24 +456,20 @@ def _of_epub(container: zipfile.ZipFile, found: Contents) -> None:
     package = Package(container)
     names = frozenset(container.namelist())
 
-    # most pages link to the same sheets
-    @cache
-    def rules_in(sheet: str) -> tuple[Rule, ...]:
-        return rules_of(part_of(container, sheet).decode(errors="replace"))
+    def text_of(sheet: str) -> str:
+        is_there = sheet in names
+        return part_of(container, sheet).decode(errors="replace") if is_there else ""
 
-    def linked(part: str, address: str) -> tuple[Rule, ...]:
-        sheet = normpath(str(PurePosixPath(part).parent / unquote(address)))
-        return rules_in(sheet) if sheet in names else ()
-
+    sheets = Sheets(text_of)
     for part in package.absent:
         found.lose(LossKind.ABSENT, part)
     for page in package.pages():
         try:
             text = characters_of_page(part_of(container, page.part))
-            read = _page_of(text, partial(linked, page.part))
         except UnreadableText:
             found.lose(LossKind.UNREAD, page.part)
             continue
+        read = _page_of(text, partial(sheets.linked, page.part))
         if page.part in package.repeated:
             found.lose(LossKind.REPEATED, _first(read.passages) or page.part)
         found.passages += read.passages
@@ -508,19 +534,13 @@ class _List:
 class _Html(Tags):
     """The text of a page, parted where a block begins or ends."""
 
-    #: The elements that part paragraphs, as pandoc has them: all others stand within a line.
-    _BLOCKS = frozenset(
-        "address applet area article aside audio blockquote body br button canvas caption case"
-        " caution center col colgroup dd default details dir div dl dt embed epigraph equation"
-        " example fieldset figcaption figure footer form formalpara frameset h1 h2 h3 h4 h5 h6 head"
-        " header hgroup hr html iframe important isindex li main map menu meta nav noframes noscript"
-        " note object ol output p para pre procedure progress screen script section sidebar simpara"
-        " source style summary svg switch synopsis table task tbody td textarea tfoot th"
-        " thead tip title tr ul video warning".split()
-    )
     # a formula is typed in another language, which is said of each
     _SILENT = frozenset({"script", "style", "title", "template", "math"})
     _LISTS = frozenset({"toc", "landmarks", "page-list"})
+    #: What may stand within others of its kind, and how deep: nothing shows more, and pandoc would take
+    #: minutes, or lose them.
+    _NESTING = frozenset("article blockquote div dl ol section ul".split())
+    _DEEPEST = 1_000
     _VOID = frozenset(
         "area base br col embed hr img input link meta param source track wbr".split()
     )
@@ -597,7 +617,7 @@ class _Html(Tags):
             self._in_list = True
         self._enter(tag, dict(attrs))
         if tag not in self._VOID and self._sheet.is_counted(self._path):
-            self._counted.append(len(self._texts) - (tag not in self._BLOCKS))
+            self._counted.append(len(self._texts) - (tag not in BLOCKS))
         self._count(tag, dict(attrs))
         self._open += tag == self._back
         if not self._back and tag in ("a", "span") and _is_back(dict(attrs)):
@@ -630,8 +650,9 @@ class _Html(Tags):
 
     def handle_data(self, data: str) -> None:
         if self._path and self._path[-1].tag == "style":
+            for address in imports_of(data):
+                self._add_sheet(address, "all")
             self._sheet.add(rules_of(data))
-            self._is_unread |= _IMPORT.search(data) is not None
         if not self._silent and not self._back:
             texts = self._lists if self._in_list else self._texts
             if self._reading == "begun" and data.strip():
@@ -654,6 +675,8 @@ class _Html(Tags):
             classes = frozenset((attributes.get("class") or "").split())
             self._path.append(PageElement(tag, attributes.get("id") or "", classes))
             self._tags[tag] += 1
+            if tag in self._NESTING and self._tags[tag] > self._DEEPEST:
+                raise NoDocument(WhyNot.TOO_DEEP)
 
     def _leave(self, tag: str) -> None:
         left = None if self._tags[tag] else tag
@@ -663,10 +686,14 @@ class _Html(Tags):
 
     def _link(self, tag: str, attributes: dict[str, str | None]) -> None:
         if tag == "link" and "stylesheet" in (attributes.get("rel") or "").lower():
-            rules = self._linked(attributes.get("href") or "")
-            is_print = _FOR_PRINT.search(attributes.get("media") or "all")
-            self._is_unread |= rules is None and is_print is not None
-            self._sheet.add(rules or ())
+            address, media = attributes.get("href"), attributes.get("media")
+            self._add_sheet(address or "", media or "all")
+
+    def _add_sheet(self, address: str, media: str) -> None:
+        """Adds the rules of a sheet for some media, if it is read."""
+        rules = self._linked(address)
+        self._is_unread |= rules is None and _FOR_PRINT.search(media) is not None
+        self._sheet.add(rules or ())
 
     def _count(self, tag: str, attributes: dict[str, str | None]) -> None:
         """Notes a list, or an item of the list that is open."""
@@ -708,7 +735,7 @@ class _Html(Tags):
             self.handle_data(" ")
 
     def _part(self, tag: str) -> None:
-        if tag in self._BLOCKS:
+        if tag in BLOCKS:
             self._texts.append([])
             self._lists.append(["\n"])
             self._back, self._open = "", 0

@@ -5,8 +5,8 @@ Documents are read by pandoc (`pages`, `package`, `numbers`, `word_print`, `numb
 words of its paragraphs with those that the file itself has (`contents`).
 
 RTF and DOC are turned into DOCX by LibreOffice first: pandoc loses print of the one without a word, and
-doesn't read the other. ODT is where pandoc loses words of it, as what the text computes, or numbers,
-if fewer are lost so: the text boxes that LibreOffice makes of frames are lost in their turn.
+doesn't read the other. ODT is where pandoc loses words of it, as those of a table of contents, or
+numbers, if fewer are lost so: the text boxes that LibreOffice makes of frames are lost in their turn.
 """
 
 from dataclasses import replace
@@ -20,6 +20,7 @@ from braildesk.desk.documents.kinds import (
     WhyNot,
     repacked,
 )
+from braildesk.desk.documents.markdown_notes import with_marks, without_marks
 from braildesk.desk.documents.markup import characters_of_page, characters_of_text
 from braildesk.desk.documents.notes import with_notes
 from braildesk.desk.documents.numbers import with_numbers
@@ -64,7 +65,7 @@ def read_document(
 
 def _read_odt(data: bytes, reading: ReadingOptions) -> Manuscript:
     """A text in ODT, by DOCX if fewer words are lost so."""
-    numbered, losses = with_odt_numbers(data, reading.bullet)
+    numbered, losses = with_odt_numbers(data, reading.bullet, reading.brackets)
     own = replace(contents.contents_of(numbered, ManuscriptKind.ODT), numbers=losses)
     found = _read(numbered, ManuscriptKind.ODT, own, reading)
     if any(_lost(found)) and pandoc.office():
@@ -106,8 +107,11 @@ def _read(
     data: bytes, kind: ManuscriptKind, own: Contents, reading: ReadingOptions
 ) -> Manuscript:
     """What pandoc reads, compared with what the file has."""
-    tree, left_out = pandoc.tree(_readable(data, kind), kind)
+    readable, repeated = _readable(data, kind)
+    tree, left_out = pandoc.tree(readable, kind)
     try:
+        if kind is ManuscriptKind.MARKDOWN:
+            tree = without_marks(tree)
         noted = with_notes(tree)
         beside = said_beside(tree) if kind is ManuscriptKind.MARKDOWN else []
     except RecursionError as fault:
@@ -130,16 +134,20 @@ def _read(
     missing += [Missing(text, "", "") for text in beside]
     parts = tuple(each for part in found.parts for each in short_enough(part))
     losses = (*found.losses, *own.numbers, *_too_long(found.parts), *own.losses)
+    losses += tuple(repeated)
     return Manuscript(kind, parts, losses, tuple(missing))
 
 
-def _readable(data: bytes, kind: ManuscriptKind) -> bytes:
-    """A document as pandoc reads all of it."""
+def _readable(data: bytes, kind: ManuscriptKind) -> tuple[bytes, list[Loss]]:
+    """A document as pandoc reads all of it, and the notes that are repeated."""
     if kind is ManuscriptKind.EPUB:
-        return pages.readable_book(data)
+        return pages.readable_book(data), []
     if kind is ManuscriptKind.HTML:
-        return pages.readable_page(data.decode()).encode()
-    return data
+        return pages.readable_page(data.decode()).encode(), []
+    if kind is ManuscriptKind.MARKDOWN:
+        text, repeated = with_marks(data.decode())
+        return text.encode(), repeated
+    return data, []
 
 
 def _too_long(parts: tuple[Part, ...]) -> list[Loss]:

@@ -42,6 +42,7 @@ class WhyNot(Enum):
     DAMAGED = auto()
     TOO_LARGE = auto()
     TOO_DEEP = auto()
+    TABLES = auto()
     ENCRYPTED = auto()
     COPY_PROTECTED = auto()
     BOOK = auto()
@@ -75,12 +76,20 @@ class NotConverted(UnreadableText):
         self.said = said
 
 
+class Spent(Enum):
+    """What a program takes more of for a document than for any book."""
+
+    TIME = auto()
+    MEMORY = auto()
+
+
 class BrokenOff(UnreadableText):
     """A program takes more time or memory for a document than for any book."""
 
-    def __init__(self, name: str) -> None:
-        super().__init__(name)
+    def __init__(self, name: str, spent: Spent) -> None:
+        super().__init__(name, spent)
         self.name = name
+        self.spent = spent
 
 
 class NotRead(UnreadableText):

@@ -25,7 +25,16 @@ _OF_NO_PAGE = re.compile(
 _OF_ONE_BYTE = re.compile(r"(iso[-_]?8859|windows[-_]?125|cp125|latin).*")
 _MARKS = ((b"\xff\xfe", "utf-16"), (b"\xfe\xff", "utf-16"), (b"", "utf-8-sig"))
 
-
+#: The elements that part paragraphs, as pandoc has them: all others stand within a line.
+BLOCKS = frozenset(
+    "address applet area article aside audio blockquote body br button canvas caption case"
+    " caution center col colgroup dd default details dir div dl dt embed epigraph equation"
+    " example fieldset figcaption figure footer form formalpara frameset h1 h2 h3 h4 h5 h6 head"
+    " header hgroup hr html iframe important isindex li main map menu meta nav noframes noscript"
+    " note object ol output p para pre procedure progress screen script section sidebar simpara"
+    " source style summary svg switch synopsis table task tbody td textarea tfoot th"
+    " thead tip title tr ul video warning".split()
+)
 #: The fields of forms in which no words are seen.
 _WORDLESS = frozenset("hidden checkbox radio password file color range image".split())
 

@@ -16,6 +16,7 @@ from zipfile import ZipFile
 from braildesk.desk.documents import tables_of_odt
 from braildesk.desk.documents.kinds import is_media, part_of, unpacked
 from braildesk.desk.documents.reading import Loss, LossKind, plain, whole
+from braildesk.desk.documents.styles_of_odt import WordStyles
 from braildesk.desk.documents.tree import letters, roman
 from braildesk.desk.documents.xml_writing import Rewriting, rewritten
 
@@ -32,6 +33,20 @@ _ALONE = f"{_TEXT}numbered-paragraph"
 #: whose text pandoc leaves out.
 _AROUND = frozenset({_LIST, *_ITEMS, _ALONE, f"{_TEXT}section"})
 _DELETED, _NOTE = f"{_TEXT}tracked-changes", f"{_TEXT}note-body"
+_WHOLE_NOTE, _NOTE_AGAIN = f"{_TEXT}note", f"{_TEXT}note-ref"
+#: What a text computes, and shows as it was last: pandoc leaves it out.
+_FIELDS = frozenset(
+    f"{_TEXT}{name}"
+    for name in "author-initials author-name chapter conditional-text creation-date creation-time creator"
+    " database-display date description editing-cycles editing-duration expression file-name"
+    " initial-creator keywords measure modification-date modification-time page-continuation"
+    " page-count page-number page-variable-get paragraph-count print-date print-time printed-by"
+    " sender-city sender-company sender-country sender-email sender-fax sender-firstname sender-initials"
+    " sender-lastname sender-phone-private sender-phone-work sender-position sender-postal-code"
+    " sender-state-or-province sender-street sender-title subject table-formula template-name text-input"
+    " time title user-defined user-field-get user-field-input variable-get variable-input variable-set"
+    " word-count".split()
+)
 #: Where the form of a number has the number of a level, from 1 on.
 _PLACE = re.compile("%([1-9][0-9]?)%")
 _OUTLINE = "outline-style"
@@ -58,12 +73,15 @@ _FORMS: Mapping[tuple[str, bool], Callable[[int], str]] = {
 }
 
 
-def with_odt_numbers(data: bytes, bullet: str) -> tuple[bytes, list[Loss]]:
+def with_odt_numbers(
+    data: bytes, bullet: str, brackets: str
+) -> tuple[bytes, list[Loss]]:
     """A text without lists, whose paragraphs begin with their numbers; and those not as in print, with
     the cells that go on over rows.
 
-    Its tables have no heads, and a place for each cell that goes on. It has no pictures any more, which
-    aren't looked at. Raises `NoDocument`.
+    Further numbers of a note are text, in brackets, and so are fields, as they are shown; styles of words
+    have the emphasis of those that they are based on. Its tables have no heads, and a place for each cell
+    that goes on. It has no pictures any more, which aren't looked at. Raises `NoDocument`.
     """
     made = BytesIO()
     with unpacked(data) as container, ZipFile(made, "w") as other:
@@ -77,22 +95,73 @@ def with_odt_numbers(data: bytes, bullet: str) -> tuple[bytes, list[Loss]]:
         labels = iter(numbering.labels(root))
 
         spans = tables_of_odt.Spans(root)
-        ahead = iter([spans.ahead.get(id(each), "") for each in root.iter()])
+        words = WordStyles(styles, root)
+        replaced = words.written(root) | _notes_again(root, brackets) | _fields(root)
 
         def front_of(name: str) -> str:
             return escape(next(labels)) if name in (_PARAGRAPH, _HEADING) else ""
 
-        how = Rewriting(
-            front_of,
-            lambda name: next(ahead),
-            _AROUND | tables_of_odt.AROUND_ROWS,
-            prefixes=tables_of_odt.PREFIXES,
-        )
         for name, part in parts.items():
             if name == _CONTENT:
-                part = rewritten(part, how)
+                part = _rewritten(part, root, replaced, spans.ahead, front_of)
+            elif name == _STYLES and (named := words.written(styles)):
+                part = _rewritten(part, styles, named)
             other.writestr(name, part)
     return made.getvalue(), [*numbering.losses, *spans.losses]
+
+
+def _rewritten(
+    part: bytes,
+    root: Element,
+    replaced: Mapping[int, str],
+    ahead: Mapping[int, str] = {},
+    front_of: Callable[[str], str] = lambda name: "",
+) -> bytes:
+    """A part with texts in place of elements and ahead of others, by their identities."""
+    elements = map(id, root.iter())
+    texts = {**ahead, **replaced}
+    # the element that the parts of the rewriting are asked for
+    found = 0
+
+    def ahead_of(name: str) -> str:
+        nonlocal found
+        found = next(elements)
+        return texts.get(found, "")
+
+    how = Rewriting(
+        front_of,
+        ahead_of,
+        _AROUND | tables_of_odt.AROUND_ROWS,
+        # pandoc leaves covered cells out in a time that grows faster than their number
+        lambda name, _: found in replaced or name == tables_of_odt.COVERED,
+        prefixes=tables_of_odt.PREFIXES,
+    )
+    return rewritten(part, how)
+
+
+def _fields(root: Element) -> dict[int, str]:
+    """What is shown of each field that a text computes, by its identity."""
+    return {
+        id(each): escape(each.text or "")
+        for each in root.iter()
+        if each.tag in _FIELDS and not len(each)
+        if each.get(f"{_TEXT}display") != "none"
+    }
+
+
+def _notes_again(root: Element, brackets: str) -> dict[int, str]:
+    """What stands in place of each further number of a note, by its identity."""
+    gone = {id(note) for each in root.iter(_DELETED) for note in each.iter(_WHOLE_NOTE)}
+    notes = [note for note in root.iter(_WHOLE_NOTE) if id(note) not in gone]
+    numbers = {note.get(f"{_TEXT}id"): n for n, note in enumerate(notes, start=1)}
+    found = {}
+    for each in root.iter(_NOTE_AGAIN):
+        text = "".join(each.itertext())
+        number = numbers.get(each.get(f"{_TEXT}ref-name"))
+        if number and each.get(f"{_TEXT}reference-format", "text") == "text":
+            text = f"{brackets[0]}{number}{brackets[1]}"
+        found[id(each)] = escape(text)
+    return found
 
 
 @dataclass(frozen=True, slots=True)

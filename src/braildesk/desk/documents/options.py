@@ -3,14 +3,15 @@
 from dataclasses import dataclass
 
 from braildesk.desk.documents.kinds import ManuscriptKind
+from braildesk.protocol.value import Value
 
 #: What stands before an item of a list that has no number, and around notes and the descriptions of
 #: pictures, unless something else is said.
 BULLET, BRACKETS = "\u2022", "[]"
 
 
-@dataclass(frozen=True, slots=True)
-class ReadingOptions:
+@dataclass(frozen=True, slots=True, eq=False, repr=False)
+class ReadingOptions(Value):
     """How a manuscript is read."""
 
     #: Which kind it is; else that is found.

@@ -20,8 +20,15 @@ from urllib.parse import unquote
 from zipfile import ZipFile
 
 from braildesk.desk.documents.kinds import is_media, part_of, unpacked
-from braildesk.desk.documents.markup import Tags, characters_of_page, field_words
+from braildesk.desk.documents.markup import (
+    BLOCKS,
+    Tags,
+    characters_of_page,
+    field_words,
+)
 from braildesk.desk.documents.package import Package
+from braildesk.desk.documents.reading import whole
+from braildesk.desk.documents.table_places import Places, TableSize
 from braildesk.desk.manuscript import UnreadableText
 
 _LINE_END = re.compile(r"\r\n?")
@@ -33,9 +40,17 @@ _DIVISIONS = frozenset({"aside", "figure", "figcaption"})
 _COLUMNS = frozenset({"col", "colgroup"})
 #: The parts of a table, by how deep they are in it.
 _PARTS = {"thead": 0, "tbody": 0, "tfoot": 0, "tr": 1, "td": 2, "th": 2}
+_CELLS = frozenset({"td", "th"})
+#: The most columns and rows over which a cell goes on where pages are shown, and a width in a tag.
+_WIDEST, _HIGHEST = 1_000, 65_534
+_WIDTH = re.compile(
+    r"""(?<![\w:-])colspan\s*=\s*(?:"[^"]*"|'[^']*'|[^\s"'>]*)""", re.IGNORECASE
+)
 #: Characters with a reading, and what ends one that isn't ended itself.
 _RUBY, _READING = "ruby", "rt"
 _AFTER_READING = frozenset({"rt", "rp", "rb", "rtc"})
+#: Where a reading ends that nothing ends before; a line may end within one.
+_AROUND_READING = BLOCKS - {"br"}
 _BRACKET = re.compile("<rp[\\s>]", re.IGNORECASE)
 _RUBY_END = re.compile("</ruby", re.IGNORECASE)
 _TAG_END = re.compile(r"\s*</")
@@ -50,7 +65,7 @@ def with_line_feeds(text: str) -> str:
 
 def readable_page(page: str) -> str:
     """A page whose asides and figures are divisions, its paragraphs and terms with their names inside."""
-    return _Rewriting(page).whole()
+    return _Rewriting(page, Places()).whole()
 
 
 def readable_book(data: bytes) -> bytes:
@@ -66,6 +81,7 @@ def readable_book(data: bytes) -> bytes:
         pages = frozenset(page.part for page in package.pages())
         parts[package.part] = package.whole()
     counts = Counter(PurePosixPath(name).name for name in names)
+    places = Places()
     made = BytesIO()
     with ZipFile(made, "w") as other:
         for name in names:
@@ -74,15 +90,20 @@ def readable_book(data: bytes) -> bytes:
                 page = ""
                 with suppress(UnreadableText):
                     page = with_line_feeds(characters_of_page(part))
-                part = _Rewriting(page, counts).whole().encode()
+                part = _Rewriting(page, places, counts).whole().encode()
             other.writestr(name, part)
     return made.getvalue()
 
 
 class _Rewriting(Tags):
-    """What writes a page anew; of one of a book, it is counted how many parts there have each name."""
+    """What writes a page anew; of one of a book, it is counted how many parts there have each name.
 
-    def __init__(self, page: str, counts: Mapping[str, int] | None = None) -> None:
+    The empty places of its tables are counted with others.
+    """
+
+    def __init__(
+        self, page: str, places: Places, counts: Mapping[str, int] | None = None
+    ) -> None:
         super().__init__(convert_charrefs=False)
         self._page = page
         self._counts = counts
@@ -96,6 +117,8 @@ class _Rewriting(Tags):
         self._ruby_ends = [each.start() for each in _RUBY_END.finditer(page)]
         #: The parts of each table that are open, from the outermost on.
         self._tables: list[list[str]] = []
+        self._sizes: list[TableSize] = []
+        self._places = places
         #: Where the templates begin that are open.
         self._templates: list[int] = []
 
@@ -103,12 +126,15 @@ class _Rewriting(Tags):
         """The page as it is written anew."""
         self.feed(self._page)
         self.close()
-        return "".join((*self._pieces, self._page[self._done :]))
+        end = ")" * self._is_in_reading
+        return "".join((*self._pieces, self._page[self._done :], end))
 
     def handle_starttag(self, tag: str, attrs: list[tuple[str, str | None]]) -> None:
         if tag == _TEMPLATE:
             self._templates.append(self._start())
+        self._end_block(tag)
         self._begin_part(tag)
+        self._measure(tag, dict(attrs))
         after = ""
         if tag in ("p", "dt") and (name := dict(attrs).get("id")):
             after = f'<span id="{escape(name)}"></span>'
@@ -119,6 +145,7 @@ class _Rewriting(Tags):
 
     def handle_endtag(self, tag: str) -> None:
         start = self._start()
+        self._end_block(tag)
         self._end_parts(tag)
         if tag in (_READING, _RUBY):
             self._end_reading()
@@ -135,15 +162,25 @@ class _Rewriting(Tags):
         """Ends the parts of a table that end where another begins, and notes that one."""
         if tag == "table":
             self._tables.append([])
+            self._sizes.append(TableSize(self._places))
         elif tag in _PARTS and self._tables:
             self._close_parts(_PARTS[tag])
             self._tables[-1].append(tag)
+
+    def _measure(self, tag: str, attributes: Mapping[str, str | None]) -> None:
+        """Counts the places of a row or a cell that begins; raises `NoDocument` if there are too many."""
+        if tag == "tr" and self._sizes:
+            self._sizes[-1].begin_row()
+        elif tag in _CELLS and self._sizes:
+            height = max(whole((attributes.get("rowspan") or "").strip(), 1), 1)
+            self._sizes[-1].add_cell(_width(attributes), min(height, _HIGHEST))
 
     def _end_parts(self, tag: str) -> None:
         """Ends the parts of a table that end with the one around them."""
         if tag == "table" and self._tables:
             self._close_parts(0)
             self._tables.pop()
+            self._sizes.pop()
         elif tag in _PARTS and self._tables and tag in self._tables[-1]:
             self._close_parts(_PARTS[tag] + 1)
             self._tables[-1].remove(tag)
@@ -172,6 +209,12 @@ class _Rewriting(Tags):
         found = bisect_left(places, self._start())
         return places[found] if found < len(places) else len(self._page)
 
+    def _end_block(self, tag: str) -> None:
+        """Ends characters that are still open where a block begins or ends, with their reading."""
+        if tag in _AROUND_READING:
+            self._end_reading()
+            self._is_bare = False
+
     def _end_reading(self) -> None:
         if self._is_in_reading:
             self._put(self._start(), self._start(), ")")
@@ -185,6 +228,9 @@ class _Rewriting(Tags):
             written = f"<div{written[1 + len(tag) :]}"
         if tag in _COLUMNS:
             written = ""
+        if tag in _CELLS and "colspan" in dict(attrs):
+            # as it was counted, however it is written; the blank parts it from what comes after it
+            written = _WIDTH.sub(f"colspan={_width(dict(attrs))} ", written)
         if words := field_words(tag, dict(attrs)):
             written = f" {escape(words)} "
         if tag == "img" and "src" not in dict(attrs):
@@ -217,3 +263,9 @@ class _Rewriting(Tags):
             return
         self._pieces += (self._page[self._done : start], written)
         self._done = stop
+
+
+def _width(attributes: Mapping[str, str | None]) -> int:
+    """Over how many columns a cell goes on."""
+    width = (attributes.get("colspan") or "").strip()
+    return min(max(whole(width, 1), 1), _WIDEST)

@@ -22,6 +22,7 @@ from braildesk.desk.documents.kinds import (
     NoConverter,
     NoDocument,
     NotConverted,
+    Spent,
     WhyNot,
 )
 from braildesk.desk.manuscript import UnreadableText
@@ -45,6 +46,8 @@ _LEFT_OUT = re.compile(
 )
 #: The status by which programs made by GHC, as pandoc is, end where they get no more memory.
 _NO_MEMORY = 251
+#: What they say where something is nested too deeply for them.
+_STACK = b"stack overflow"
 #: How much of what a program says beside its answer is read.
 _SAID_BYTES = 1 << 20
 
@@ -131,7 +134,7 @@ def _wait(name: str, process: subprocess.Popen[bytes]) -> None:
     try:
         process.wait(_SECONDS)
     except subprocess.TimeoutExpired as fault:
-        raise BrokenOff(name) from fault
+        raise BrokenOff(name, Spent.TIME) from fault
     finally:
         if process.poll() is None:
             os.killpg(process.pid, signal.SIGKILL)
@@ -139,8 +142,13 @@ def _wait(name: str, process: subprocess.Popen[bytes]) -> None:
 
 def _failure(name: str, status: int, errors: bytes) -> UnreadableText:
     """Why a program failed: by a limit, or by what it said, in one line."""
-    if status in (-signal.SIGXCPU, -signal.SIGKILL, _NO_MEMORY):
-        return BrokenOff(name)
+    if status == -signal.SIGXCPU:
+        return BrokenOff(name, Spent.TIME)
+    # a system that runs out of memory ends what takes most of it
+    if status in (-signal.SIGKILL, _NO_MEMORY):
+        return BrokenOff(name, Spent.MEMORY)
+    if _STACK in errors:
+        return NoDocument(WhyNot.TOO_DEEP)
     if status == -signal.SIGXFSZ:
         return NoDocument(WhyNot.TOO_LARGE)
     return NotConverted(name, " ".join(errors.decode(errors="replace").split()))

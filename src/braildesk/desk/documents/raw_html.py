@@ -1,5 +1,6 @@
 """The tags of HTML that stand in a text in Markdown, which pandoc hands on as they are."""
 
+import re
 from collections.abc import Mapping
 from dataclasses import dataclass, field
 
@@ -16,6 +17,14 @@ _ELEMENTS = frozenset(
     " style sub summary sup table tbody td template textarea tfoot th thead time title tr track tt u ul"
     " var video wbr".split()
 )
+#: Attributes that have no value.
+_SWITCHES = frozenset(
+    "allowfullscreen async autofocus autoplay checked compact controls default defer disabled download"
+    " formnovalidate hidden ismap itemscope loop multiple muted nohref nomodule noresize noshade"
+    " novalidate nowrap open playsinline readonly required reversed selected".split()
+)
+#: The end of an element with words after its name.
+_WORDY_END = re.compile(r"</[A-Za-z][^\s<>]*\s+[^\s>]")
 
 
 @dataclass(frozen=True, slots=True)
@@ -28,17 +37,18 @@ class RawTag:
 
     @property
     def is_known(self) -> bool:
-        """Whether it is one of HTML."""
-        return self.name in _ELEMENTS
+        """Whether it is one of HTML, and has no words of a text where attributes stand."""
+        bare = {name for name, value in self.attributes.items() if value is None}
+        return self.name in _ELEMENTS and bare <= _SWITCHES
 
 
 class RawHtml(Tags):
-    """A piece of HTML: its tags, and whether it has print between them."""
+    """A piece of HTML: its tags, and whether it has print between or in them."""
 
     def __init__(self, text: str) -> None:
         super().__init__()
         self.tags: list[RawTag] = []
-        self.has_print = False
+        self.has_print = bool(_WORDY_END.search(text))
         self.feed(text)
         self.close()
 
@@ -54,5 +64,5 @@ class RawHtml(Tags):
     @property
     def is_left_out(self) -> bool:
         """Whether more of it is left out than tags of HTML."""
-        is_known = all(each.is_known or each.is_end for each in self.tags)
+        is_known = all(each.is_known for each in self.tags)
         return self.has_print or not is_known

@@ -40,6 +40,7 @@ class LossKind(Enum):
     LENGTH = auto()
     RAW = auto()
     NOTE = auto()
+    NOTE_AGAIN = auto()
     HIDDEN = auto()
     DELETED = auto()
     COMMENT = auto()

@@ -6,13 +6,26 @@ media or for print.
 """
 
 import re
-from collections.abc import Iterable, Iterator, Mapping, Sequence
+from collections.abc import Callable, Iterable, Iterator, Mapping, Sequence
 from dataclasses import dataclass
+from pathlib import PurePosixPath
+from posixpath import normpath
+from urllib.parse import unquote
 
 #: A comment, which goes on to the end where nothing ends it.
 _COMMENT = re.compile(r"/\*.*?(?:\*/|\Z)", re.DOTALL)
 _BRACE = re.compile("[{}]")
 _FOR_PRINT = re.compile(r"@media\s+(?:only\s+)?(?:all|print)", re.IGNORECASE)
+#: A sheet that another one has ahead of its own rules, with the media for which it does; and what else
+#: may be said there.
+_IMPORT = re.compile(
+    r"""@import\s*(?:url\(\s*)?(?:"([^"]*)"|'([^']*)'|([^"')\s;]+))\s*\)?([^;]*)""",
+    re.IGNORECASE,
+)
+_CONDITION = re.compile(r"\b(?:layer|supports)\b(?:\([^()]*\))?", re.IGNORECASE)
+_PRINTED = re.compile(r"\b(?:all|print)\b", re.IGNORECASE)
+#: How deep sheets import each other, how many one has with those that it imports, and how many rules.
+_MOST_NESTED, _MOST_SHEETS, _MOST_RULES = 8, 100, 10_000
 _SELECTOR = re.compile(r"([\w-]+|\*)?((?:[.#][\w-]+)*)")
 #: How deep rules for some media are looked for within others.
 _DEEPEST = 8
@@ -119,6 +132,57 @@ class Sheet:
             fit = (rule.values for rule in self._rules if rule.fits(path))
             self._found[path] = {name: each[name] for each in fit for name in each}
         return self._found[path]
+
+
+class Sheets:
+    """The style sheets of a container by their parts, each of which is read once."""
+
+    def __init__(self, text_of: Callable[[str], str]) -> None:
+        #: What the text of a part is, nothing of one that isn't there.
+        self._text_of = text_of
+        self._own: dict[str, tuple[tuple[str, ...], tuple[Rule, ...]]] = {}
+        self._whole: dict[str, tuple[Rule, ...] | None] = {}
+
+    def linked(self, part: str, address: str) -> tuple[Rule, ...] | None:
+        """The rules of the sheet to which a part links; None if not all that it imports is read."""
+        sheet = _beside(part, address)
+        if sheet not in self._whole:
+            rules: list[Rule] = []
+            is_whole = self._add(sheet, 1, set(), rules)
+            self._whole[sheet] = tuple(rules) if is_whole else None
+        return self._whole[sheet]
+
+    def _add(self, sheet: str, depth: int, seen: set[str], rules: list[Rule]) -> bool:
+        """Adds the rules of a sheet after those that it imports, each sheet once; whether that is all."""
+        if sheet in seen:
+            return True
+        if depth > _MOST_NESTED or len(seen) == _MOST_SHEETS:
+            return False
+        seen.add(sheet)
+        if sheet not in self._own:
+            text = self._text_of(sheet)
+            imported = dict.fromkeys(_beside(sheet, each) for each in imports_of(text))
+            self._own[sheet] = tuple(imported), rules_of(text)
+        inner, own = self._own[sheet]
+        is_whole = all(self._add(each, depth + 1, seen, rules) for each in inner)
+        rules += own
+        return is_whole and len(rules) <= _MOST_RULES
+
+
+def imports_of(text: str) -> tuple[str, ...]:
+    """The addresses of the sheets that a style sheet, or its front, imports for print."""
+    front = _COMMENT.sub(" ", text).partition("{")[0]
+    found = []
+    for *addresses, media in _IMPORT.findall(front):
+        media = _CONDITION.sub(" ", media).strip()
+        if not media or _PRINTED.search(media):
+            found.append("".join(addresses))
+    return tuple(found)
+
+
+def _beside(part: str, address: str) -> str:
+    """The part to which an address leads from another one."""
+    return normpath(str(PurePosixPath(part).parent / unquote(address)))
 
 
 def rules_of(text: str) -> tuple[Rule, ...]:

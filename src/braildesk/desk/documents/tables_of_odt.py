@@ -4,15 +4,18 @@ pandoc leaves out the rows of a head, and each cell that another one covers, so 
 would stand under another head.
 """
 
+from bisect import bisect_left
 from collections.abc import Iterator
 from xml.etree.ElementTree import Element
 
 from braildesk.desk.documents.reading import Loss, LossKind, plain, whole
+from braildesk.desk.documents.table_places import Places, TableSize
 
 _TABLE = "{urn:oasis:names:tc:opendocument:xmlns:table:1.0}"
 _TEXT = "{urn:oasis:names:tc:opendocument:xmlns:text:1.0}"
 _ROW, _CELL = f"{_TABLE}table-row", f"{_TABLE}table-cell"
-_COVERED = f"{_TABLE}covered-table-cell"
+#: What stands in place of cells that another one covers.
+COVERED = f"{_TABLE}covered-table-cell"
 #: What stands around rows, and can be left out.
 AROUND_ROWS = frozenset(
     f"{_TABLE}table-{name}" for name in ("header-rows", "rows", "row-group")
@@ -25,32 +28,38 @@ _MOST = 1_000
 
 
 class Spans:
-    """The cells of a text that go on over rows."""
+    """The cells of a text that go on over rows; raises `NoDocument` for too many empty places."""
 
     def __init__(self, root: Element) -> None:
         #: What stands ahead of elements, by their identities.
         self.ahead: dict[int, str] = {}
         self.losses: list[Loss] = []
+        places = Places()
         for table in root.iter(f"{_TABLE}table"):
-            self._read(table)
+            self._read(table, TableSize(places))
 
-    def _read(self, table: Element) -> None:
+    def _read(self, table: Element, size: TableSize) -> None:
         # how many rows more the cell that begins at a column has
         going_on: dict[int, int] = {}
         for row in _rows(table):
             begun: dict[int, int] = {}
             column = 0
+            covered = sorted(going_on)
+            size.begin_row()
             for cell in row:
-                if cell.tag not in (_CELL, _COVERED):
+                if cell.tag not in (_CELL, COVERED):
                     continue
                 stop = column + _count(cell, "number-columns-repeated")
                 height = _count(cell, "number-rows-spanned")
-                if cell.tag == _COVERED:
-                    places = sum(each in going_on for each in range(column, stop))
+                if cell.tag == COVERED:
+                    places = bisect_left(covered, stop) - bisect_left(covered, column)
+                    size.add_empty(places)
                     self.ahead[id(cell)] = _PLACE * places
-                elif height > 1:
-                    begun[column] = height
-                    self._note(cell)
+                else:
+                    size.add_cell()
+                    if height > 1:
+                        begun[column] = height
+                        self._note(cell)
                 column = stop
             going_on = {each: left - 1 for each, left in going_on.items()} | begun
             going_on = {each: left for each, left in going_on.items() if left > 1}

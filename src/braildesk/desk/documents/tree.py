@@ -5,6 +5,7 @@ print of a book can't hold is noted, each time with the words around it.
 """
 
 import re
+from collections import Counter
 from collections.abc import Iterable, Iterator, Mapping, Sequence
 from dataclasses import dataclass, field, replace
 from typing import Any
@@ -96,6 +97,12 @@ class _Line:
     def lose(self, what: LossKind, since: int) -> None:
         self.spans.append((what, since, self.length))
 
+    def end_tags(self) -> None:
+        """Ends the tags that are open with the text, if there is text after them."""
+        for name, since in self.opened:
+            if since < self.length:
+                self.lose(_LOST_WITHIN[name], since)
+
     @property
     def text(self) -> str:
         return "".join(self.pieces)
@@ -116,6 +123,10 @@ class _Reader:
         self._waiting: list[tuple[str, list[Node]]] = []
         #: The numbers of notes to which more than one place may lead, by their names.
         self._numbers: dict[str, str] = {}
+        #: How many elements of HTML with each name have begun and not ended.
+        self._open: Counter[str] = Counter()
+        #: The paragraph before those of a cell or a note.
+        self._before = ""
         self.parts: list[Part] = []
         self.losses: list[Loss] = []
 
@@ -228,7 +239,8 @@ class _Reader:
 
     def _take(self, line: _Line, level: int | None = None) -> None:
         """Puts what was written: of a heading as one paragraph, else one for each of its lines."""
-        before = self.parts[-1].text if self.parts else ""
+        before = self._last
+        line.end_tags()
         for loss in line.losses():
             # a picture that stands alone is found by the words before it
             around = loss.around or _around(before, len(before), len(before))
@@ -238,6 +250,11 @@ class _Reader:
         self._waiting.extend(line.notes)
         if not self._reading.notes_at_end:
             self.put_notes()
+
+    @property
+    def _last(self) -> str:
+        """The newest paragraph, by which is found what has no words itself."""
+        return self.parts[-1].text if self.parts else self._before
 
     def _lines(self, text: str, before: str = "", level: int | None = None) -> None:
         for line in _LINE_END.split(text):
@@ -299,6 +316,8 @@ class _Reader:
         )
         inner._count = self._count
         inner._numbers = self._numbers
+        inner._open = self._open
+        inner._before = self._last
         inner.blocks(nodes)
         self._count = inner._count
         self.losses += inner.losses
@@ -320,9 +339,20 @@ class _Reader:
         if found is not None:
             for tag in found.tags:
                 self._tag(tag, line)
-        is_left_out = found is None or found.is_left_out
+        is_lone = found is not None and self._ends_alone(found.tags)
+        is_left_out = found is None or found.is_left_out or is_lone
         if content[0] != "openxml" and words and is_left_out:
             self.losses.append(Loss(LossKind.RAW, words, words))
+
+    def _ends_alone(self, tags: Iterable[RawTag]) -> bool:
+        """Whether some of the tags, which are counted, are ends of what hasn't begun."""
+        is_lone = False
+        for tag in tags:
+            # the end of a line is one also where it is written as that of an element
+            is_lone |= tag.is_end and tag.name != "br" and not self._open[tag.name]
+            self._open[tag.name] += -1 if tag.is_end else 1
+            self._open[tag.name] = max(self._open[tag.name], 0)
+        return is_lone
 
     def _tag(self, tag: RawTag, line: _Line) -> None:
         """Writes what a tag of HTML is for: the end of a line, a picture, or a form of print that is lost."""
