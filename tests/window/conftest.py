@@ -123,7 +123,8 @@ def given(monkeypatch: pytest.MonkeyPatch) -> Answers:
     monkeypatch.setattr(dialogs, "choice", choice)
     monkeypatch.setattr(dialogs, "line_of", line_of)
     monkeypatch.setattr(dialogs, "report", report)
-    monkeypatch.setattr(dialogs, "text", lambda *_: answers["text"])
+    for name in ("text", "text_further"):
+        monkeypatch.setattr(dialogs, name, lambda *_: answers["text"])
     monkeypatch.setattr(dialogs, "one_of", lambda *_: answers["one_of"])
     monkeypatch.setattr(dialogs, "font", lambda *_: answers["font"])
     monkeypatch.setattr(dialogs, "file_to_read", lambda *_: answers["file"])

@@ -8,10 +8,15 @@ import pytest
 
 from braildesk.desk.drafts import Drafts
 
+from PyQt6.QtCore import QEvent, Qt
+from PyQt6.QtGui import QInputMethodEvent, QKeyEvent
+from PyQt6.QtWidgets import QApplication
+
 from scribe.window import dialogs
 from scribe.window.desk import Desk
 
 from conftest import Open
+from test_whole import prints_of
 
 _LOST = "What is typed can't be kept elsewhere: it is lost if the window is closed."
 
@@ -42,6 +47,20 @@ def test_a_text_that_can_be_kept_nowhere_is_said_to_be_lost_with_the_window(
     assert not desk.window.close()
     (asked,) = stays
     assert asked.endswith(f"Nothing was changed.\n\n{_LOST}")
+    desk.window.print.setPlainText("The Moon")
+
+
+def test_what_is_refused_is_said_also_where_what_is_typed_can_be_kept_nowhere(
+    desk: Desk, application: QApplication, tmp_path: Path
+) -> None:
+    _without_folder(tmp_path)
+    desk.window.print.insertPlainText("#")
+    for _ in range(2):
+        desk.act("keep")
+        application.processEvents()
+        said = desk.window.message.text
+        assert "The table of paragraph 1 has no cells for “#”" in said
+        assert said.count("What is typed can't be kept in") == 1
     desk.window.print.setPlainText("The Moon")
 
 
@@ -80,6 +99,77 @@ def test_lines_that_were_not_typed_yet_wait_if_the_window_is_ended(
     waiting = Drafts(desk.path).waiting()
     assert waiting is not None and waiting.text == "Two.\nThree."
     assert Drafts(desk.path).given_up() == ()
+
+
+@pytest.mark.parametrize(
+    "is_new, what, back",
+    [(False, "paragraph 1", "The Moon"), (True, "a new paragraph", "")],
+)
+def test_what_is_typed_after_lines_that_were_pasted_into_a_closed_book_waits(
+    desk: Desk, asked: dict[str, int], is_new: bool, what: str, back: str
+) -> None:
+    asked["Pasted lines"] = 0
+    if is_new:
+        desk.act("new_after")
+    desk.is_closed = True
+    field = desk.window.print
+    field.textCursor().insertText("Oh, ")
+    field.pasted.emit(["One.", "Two. "])
+    assert desk.window.message.text == (
+        "The book is closed: Open the book again, in the menu Book, opens it. A text of"
+        f" {what} isn't in the book. Ctrl+B brings it back."
+    )
+    field.textCursor().insertText("my")
+    desk.wait_for_draft()
+    waiting = Drafts(desk.path).waiting()
+    assert waiting is not None and waiting.text == f"Oh, my{back}"
+    (left,) = Drafts(desk.path).given_up()
+    assert left.text == f"Oh, One.\nTwo. {back}".rstrip()
+    desk.is_closed = False
+    desk.act("give_up")
+
+
+def test_lines_wait_while_it_is_asked_what_they_are_also_if_the_window_is_ended(
+    desk: Desk, monkeypatch: pytest.MonkeyPatch
+) -> None:
+    waiting: list[str] = []
+
+    def choice(over: object, title: str, said: str, answers: Sequence[str]) -> int:
+        found = Drafts(desk.path).waiting()
+        waiting.append(found.text if found is not None else "")
+        desk.is_ending = len(waiting) > 1
+        return 2
+
+    monkeypatch.setattr(dialogs, "choice", choice)
+    desk.window.print.put_caret(4)
+    for _ in range(2):
+        desk.window.print.pasted.emit(["One.", "Two. "])
+        desk.wait_for_draft()
+        found = Drafts(desk.path).waiting()
+        waiting.append(found.text if found is not None else "")
+        assert desk.window.print.text == "The Moon"
+    assert waiting == ["The One.\nTwo. Moon", "", *["The One.\nTwo. Moon"] * 2]
+
+
+def test_letters_that_come_after_a_refusal_are_typed_on(desk: Desk) -> None:
+    window, kind = desk.window, QEvent.Type.KeyPress
+    held = Qt.KeyboardModifier.NoModifier
+
+    def press(letter: str) -> None:
+        key = QKeyEvent(kind, Qt.Key(ord(letter.upper())), held, letter)
+        QApplication.sendEvent(window.focusWidget(), key)
+
+    desk.act("to_print")
+    window.print.textCursor().insertText("#")
+    desk.act("keep")
+    assert window.focusWidget() is window.message
+    press("s")
+    assert (window.print.text, window.focusWidget()) == ("#sThe Moon", window.print)
+    # not where the message is read because somebody went there, nor where letters are keys
+    desk.act("to_message")
+    press("t")
+    assert window.print.text == "#sThe Moon"
+    window.print.setPlainText("The Moon")
 
 
 def test_the_newest_correction_is_taken_back_by_its_key_where_it_was_typed(
@@ -122,3 +212,37 @@ def test_what_is_typed_is_offered_where_a_book_that_is_gone_was_saved(
     waiting = Drafts(saved).waiting()
     assert waiting is not None and waiting.text == "Es war"
     desk.window.print.setPlainText("")
+
+
+def test_a_word_that_an_input_method_still_holds_is_kept_with_what_was_typed(
+    desk: Desk, monkeypatch: pytest.MonkeyPatch
+) -> None:
+    field, held = desk.window.print, list[str]()
+
+    class Method:
+        """An input method, and the application that has it."""
+
+        def inputMethod(self) -> object:
+            return self
+
+        def commit(self) -> None:
+            while held:
+                event = QInputMethodEvent()
+                event.setCommitString(held.pop())
+                QApplication.sendEvent(field, event)
+
+    def type_word(word: str) -> None:
+        held.append(word)
+        QApplication.sendEvent(field, QInputMethodEvent(word, []))
+
+    monkeypatch.setattr("scribe.window.desk.QGuiApplication", Method(), raising=False)
+    type_word("xin")
+    assert field.text == "The Moon"
+    desk.act("heading")
+    assert prints_of(desk)[0] == "xinThe Moon"
+    type_word("a")
+    desk.act("give_up")
+    assert Drafts(desk.path).given_up()[0].text == "xinaThe Moon"
+    type_word("xin")
+    assert desk.window.close()
+    assert prints_of(desk)[0] == "xinxinThe Moon"

@@ -6,6 +6,7 @@ import sys
 import time
 from collections.abc import Callable, Sequence
 from pathlib import Path
+from threading import Event
 from typing import Any
 
 import pytest
@@ -56,7 +57,7 @@ def test_lines_are_joined_if_they_are_no_paragraphs(
     asked["Pasted lines"] = 1
     desk.window.print.put_caret(8)
     _paste(desk, " is\nfar")
-    assert desk.window.print.text == "The Moonis far"
+    assert desk.window.print.text == "The Moon is far"
 
 
 def test_lines_are_paragraphs_the_first_of_which_goes_on_here(
@@ -80,6 +81,30 @@ def test_of_lines_that_are_refused_none_is_lost(
     assert _prints(desk)[:3] == ["The Moon", "One.", "The mon is far away."]
     assert desk.window.message.text.startswith("1 typed. The table en has no cells")
     assert [each.text for each in Drafts(desk.path).given_up()] == ["#\nTwo."]
+
+
+@pytest.mark.parametrize("paragraphs", ["#One.\nTwo.", "One.#\nTwo.\n"])
+def test_the_first_of_pasted_lines_stays_typed_where_the_book_refuses_it(
+    desk: Desk, asked: dict[str, int], paragraphs: str
+) -> None:
+    asked["Pasted lines"] = 0
+    before = _prints(desk)
+    desk.window.print.put_caret(4)
+    _paste(desk, paragraphs)
+    assert _prints(desk) == before
+    first = paragraphs.partition("\n")[0]
+    assert desk.window.print.text == f"The {first}"
+    assert desk.window.message.text.startswith("The table of paragraph 1 has no cells")
+    assert desk.window.message.text.endswith(
+        "Nothing was changed. What comes after it was given up. Ctrl+B brings it back."
+    )
+    desk.wait_for_draft()
+    waiting = Drafts(desk.path).waiting()
+    assert waiting is not None and waiting.text == f"The {first}"
+    (left,) = Drafts(desk.path).given_up()
+    rest = "Two.Moon" if paragraphs.endswith("Two.") else "Two.\nMoon"
+    assert left.text == rest
+    desk.act("give_up")
 
 
 @pytest.mark.parametrize("typed", ["", "  "])
@@ -341,3 +366,20 @@ def test_what_an_import_did_is_said_also_if_the_session_after_it_ends(
     assert desk.is_closed is not is_there
     if is_there:
         assert [each.id for each in desk.contents.paragraphs] == [1, 4, 5, 2, 3]
+
+
+def test_the_message_says_that_the_program_is_waited_for_until_it_answers(
+    desk: Desk, monkeypatch: pytest.MonkeyPatch
+) -> None:
+    monkeypatch.setattr("scribe.window.worker._LONG_MILLISECONDS", 0, raising=False)
+    said, is_seen = list[str](), Event()
+    desk.say("Kept: paragraph 1.")
+    message = desk.window.message
+
+    def look() -> None:
+        said.append(message.text)
+        is_seen.set()
+
+    message.textChanged.connect(look)
+    assert desk.asked(lambda: is_seen.wait(5))
+    assert said == ["Waiting for braildesk to answer.", "Kept: paragraph 1."]

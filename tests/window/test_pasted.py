@@ -2,10 +2,13 @@
 
 from pathlib import Path
 
-from PyQt6.QtCore import QMimeData, QUrl
-from PyQt6.QtGui import QImage
+import pytest
+from PyQt6.QtCore import QMimeData, QPointF, Qt, QUrl
+from PyQt6.QtGui import QDropEvent, QImage
+from PyQt6.QtWidgets import QApplication
 
 from scribe.window.desk import Desk
+from scribe.window.fields import Print
 
 from conftest import Answers
 from test_whole import prints_of
@@ -70,3 +73,78 @@ def test_what_has_no_text_is_said_not_to_be_pasted(desk: Desk) -> None:
         "What was copied has no text, so nothing was typed."
     )
     assert not desk.is_typed()
+
+
+@pytest.mark.parametrize(
+    "place, text, wanted",
+    [
+        (4, "One.\nTwo. ", ["The One.", "Two. Moon", "The mon is far away."]),
+        (4, "One.\nTwo.\n", ["The One.", "Two.", "Moon"]),
+        (0, "One.\nTwo.\n", ["One.", "Two.", "The Moon"]),
+        (8, "\nrose.\nTwo.\n", ["The Moon rose.", "Two.", "The mon is far away."]),
+    ],
+)
+def test_what_stands_after_the_caret_stays_after_pasted_paragraphs(
+    desk: Desk, given: Answers, place: int, text: str, wanted: list[str]
+) -> None:
+    given["choices"] = [0]
+    desk.window.print.put_caret(place)
+    pasted(desk, Text=text)
+    assert given["said"] == ["2 lines were pasted. Are they paragraphs?"]
+    assert prints_of(desk)[:3] == wanted
+    # before a whole paragraph they are new ones, so that its marks stay on it
+    its = desk.contents.place(1)
+    assert its == (2 if place == 0 else 0)
+
+
+def test_what_stands_after_pasted_lines_that_are_joined_is_parted_from_them(
+    desk: Desk, given: Answers
+) -> None:
+    given["choices"] = [1]
+    desk.window.print.put_caret(4)
+    pasted(desk, Text="One.\nTwo.\n")
+    assert desk.window.print.text == "The One. Two. Moon"
+    desk.act("give_up")
+
+
+@pytest.mark.parametrize(
+    "place, text, wanted",
+    [
+        (3, "\nbig\n", "The big Moon"),
+        (4, "big\n", "The big Moon"),
+        (4, "  big  ", "The   big  Moon"),
+        (8, "\nrose.\n", "The Moon rose."),
+        (8, "s\n", "The Moons"),
+        (3, "\nbig\nred\n", "The big red Moon"),
+    ],
+)
+def test_the_end_of_a_line_parts_what_is_pasted_from_the_words_beside_it(
+    desk: Desk, given: Answers, place: int, text: str, wanted: str
+) -> None:
+    given["choices"] = [1]
+    desk.window.print.put_caret(place)
+    pasted(desk, Text=text)
+    assert desk.window.print.text == wanted
+    desk.act("give_up")
+
+
+def test_lines_that_are_dropped_stay_where_they_come_from_and_keep_it_waiting_for_no_answer(
+    application: QApplication,
+) -> None:
+    field, data, asked = Print(), QMimeData(), list[list[str]]()
+    field.pasted.connect(asked.append)
+    data.setText("One.\nTwo.")
+    actions, proposed = Qt.DropAction, Qt.DropAction.MoveAction
+    drop = QDropEvent(
+        QPointF(2, 8),
+        actions.CopyAction | actions.MoveAction,
+        data,
+        Qt.MouseButton.LeftButton,
+        Qt.KeyboardModifier.NoModifier,
+    )
+    drop.setDropAction(proposed)
+    field.dropEvent(drop)
+    assert drop.isAccepted() and drop.dropAction() == actions.CopyAction
+    assert not asked
+    application.processEvents()
+    assert asked == [["One.", "Two."]]

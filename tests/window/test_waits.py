@@ -8,7 +8,8 @@ from contextlib import AbstractContextManager, contextmanager
 from pathlib import Path
 
 import pytest
-from PyQt6.QtWidgets import QApplication
+from PyQt6.QtCore import QTimer
+from PyQt6.QtWidgets import QApplication, QInputDialog, QLineEdit
 
 from braildesk import Paragraph, Session, requests
 from braildesk.desk.draft import Aim, Draft
@@ -20,6 +21,7 @@ from scribe.window import dialogs
 from scribe.window.actions import Actions
 from scribe.window.book import ChosenParagraph, Done
 from scribe.window.desk import Desk
+from scribe.window.marking import Marking
 
 from conftest import Open, prints
 from test_cancelled import STAND_IN
@@ -43,7 +45,7 @@ def noted(monkeypatch: pytest.MonkeyPatch) -> Note:
             changed(first + typed)
             return entered
 
-        monkeypatch.setattr(dialogs, "text", text)
+        monkeypatch.setattr(dialogs, "text_further", text)
 
     return note
 
@@ -189,7 +191,7 @@ def test_while_a_note_is_typed_the_end_of_the_session_is_not_looked_at_again_and
         while time.monotonic() < end:
             QApplication.processEvents()
 
-    monkeypatch.setattr(dialogs, "text", text)
+    monkeypatch.setattr(dialogs, "text_further", text)
     desk.act("mark")
     assert len(looks) == 1
     end = time.monotonic() + 10
@@ -412,3 +414,21 @@ def test_of_many_lines_none_is_lost_with_the_session_and_none_typed_twice(
         left = [line for text in _given_up(desk.path) for line in text.split("\n")]
         assert [*there, *left] == lines
         assert _waiting(desk) is None
+
+
+def test_a_note_that_is_typed_further_keeps_what_was_typed_of_it_before(
+    desk: Desk,
+) -> None:
+    def type_on() -> None:
+        dialog = QApplication.activeModalWidget()
+        assert isinstance(dialog, QInputDialog)
+        line = dialog.focusWidget()
+        assert isinstance(line, QLineEdit)
+        # in place of what is selected, as a key does
+        line.insert("it")
+        dialog.accept()
+
+    QTimer.singleShot(0, type_on)
+    Marking(desk).noted(Span(0, 1), "Is ")
+    assert desk.reading is not None
+    assert [mark.note for mark in desk.reading.its.marks] == ["Is it"]

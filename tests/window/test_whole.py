@@ -267,7 +267,7 @@ def test_a_mark_is_put_on_the_words_that_are_selected_while_others_become_compos
     desk: Desk, monkeypatch: pytest.MonkeyPatch
 ) -> None:
     _give_accents(desk)
-    monkeypatch.setattr(dialogs, "text", lambda *_: "so?")
+    monkeypatch.setattr(dialogs, "text_further", lambda *_: "so?")
     desk.choose(1)
     desk.window.print.textCursor().insertText("e\u0301e\u0301 ")
     desk.window.print.select(Span(9, 12))

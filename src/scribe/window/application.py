@@ -153,6 +153,7 @@ class Application:
 
     def _close(self) -> None:
         desk = self._desk
+        desk.take_begun_word()
         desk.keep_draft(desk.draft())
         try:
             desk.close()

@@ -10,6 +10,7 @@ from pathlib import Path
 from typing import TypeVar
 
 from PyQt6.QtCore import QModelIndex, QSocketNotifier, QTimer
+from PyQt6.QtGui import QGuiApplication
 from PyQt6.QtWidgets import QWidget
 from PyQt6.sip import voidptr
 
@@ -49,6 +50,7 @@ from scribe.window.menus import MENUS
 from scribe.window.window import Window
 from scribe.window.worker import Worker
 from scribe.words import pagelook
+from scribe.words.console import WAITING
 from scribe.words.drafts import Unsent, changed_since, not_kept, what_for
 from scribe.words.paragraph import mark_line, title
 from scribe.words.preview import Preview
@@ -109,18 +111,22 @@ class Desk:
         self._light: Highlighted | None = None
         self._preview: Preview | None = None
         self._is_showing = self._is_acting = False
+        # what had the focus before the message, and whether that took it by itself
         self._came_from: QWidget | None = None
+        self._is_refused = False
         self._watched: QSocketNotifier | None = None
-        names = [each.name for items in MENUS.values() for each in items if each]
-        self.window = Window(
-            path.name,
-            self._ask_for,
-            {name: partial(self.act, name) for name in names},
-            self._may_close,
-        )
+        # what the message said before the program was waited for
+        self._said_before = ""
+        self.window = self._made_window()
         self._connect()
 
+    def _made_window(self) -> Window:
+        names = [each.name for items in MENUS.values() for each in items if each]
+        acts = {name: partial(self.act, name) for name in names}
+        return Window(self.path.name, self._ask_for, acts, self._may_close)
+
     def _connect(self) -> None:
+        self.work.waits.connect(self._say_waiting)
         chosen = self.window.table.selectionModel()
         assert chosen is not None
         window = self.window
@@ -133,6 +139,7 @@ class Desk:
         for field in (window.message, window.here, window.marks, window.cells):
             field.left.connect(self.go_back)
         window.message.entered.connect(self.go_back)
+        window.message.typed_on.connect(self._type_on)
         # Enter is where the print is typed, as on the screen
         window.table.activated.connect(lambda _: self.act("to_print"))
         window.cells.entered.connect(lambda: self.act("to_print"))
@@ -193,6 +200,7 @@ class Desk:
         """Does something, unless something else is being done."""
         if self._is_acting:
             return
+        self.take_begun_word()
         self._is_acting = True
         try:
             with self.failures():
@@ -226,9 +234,26 @@ class Desk:
             raise Stop(CLOSED)
         return self.work.result(act)
 
+    def _say_waiting(self, is_waiting: bool) -> None:
+        """Says that the program doesn't answer, until it does."""
+        message = self.window.message
+        if is_waiting:
+            self._said_before = message.text
+            self.say(WAITING)
+        elif message.text == WAITING:
+            self.say(self._said_before)
+
     def say(self, sentence: str) -> None:
         """Has something stand in the message."""
         self.window.tell(visible(sentence))
+
+    def _say_besides(self, sentence: str) -> None:
+        """Says something after what was refused, if that is being read."""
+        message = self.window.message
+        if self._is_refused and self.window.focusWidget() is message:
+            said = message.text
+            sentence = said if sentence in said else f"{said} {sentence}"
+        self.say(sentence)
 
     def refuse(self, sentence: str) -> None:
         """Has something stand in the message, which takes the focus, so that it is heard."""
@@ -238,6 +263,7 @@ class Desk:
         focused = self.window.focusWidget()
         if focused is not None and focused is not message:
             self._came_from = focused
+        self._is_refused = True
         # a screen reader that hears of the text or the caret first says nothing of the message
         message.setFocus()
         self.say(sentence)
@@ -245,13 +271,20 @@ class Desk:
 
     def go_to(self, field: QWidget) -> None:
         """Gives a part of the window the focus; Escape goes back."""
-        self._came_from = self.window.focusWidget()
+        self._came_from, self._is_refused = self.window.focusWidget(), False
         field.setFocus()
 
     def go_back(self) -> None:
         """Gives the focus back to what had it before the message."""
         before, self._came_from = self._came_from, None
         (before or self.window.table).setFocus()
+
+    def _type_on(self, typed: str) -> None:
+        """Types on in the print, by hands that don't know yet that the message took the focus."""
+        field = self.window.print
+        if self._is_refused and self._came_from is field and not field.isReadOnly():
+            self.go_back()
+            field.textCursor().insertText(typed)
 
     # what is chosen and shown
 
@@ -564,6 +597,12 @@ class Desk:
 
     # what is typed, and what is kept of it
 
+    def take_begun_word(self) -> None:
+        """Has the print take what an input method shows there and hasn't handed over yet."""
+        method = QGuiApplication.inputMethod()
+        if method is not None:
+            method.commit()
+
     def typed_text(self) -> str:
         """What is typed, in one line: what else made lines of it is as a blank."""
         text, before = self.window.print.text, self.before()
@@ -618,7 +657,7 @@ class Desk:
             except NotKept as fault:
                 # what the book has by now need not wait
                 if draft is not None and self.is_typed():
-                    self.say(not_kept(fault))
+                    self._say_besides(not_kept(fault))
 
         self.aside.latest("draft", lambda: self.unsent.keep(draft), look)
 
@@ -875,6 +914,7 @@ class Desk:
         """Whether the window may go: what is typed is kept in the book, or waits."""
         if self._is_acting:
             return False
+        self.take_begun_word()
         self._is_acting = True
         try:
             if self.is_waiting() if self.is_closed else self.settle():

@@ -7,15 +7,15 @@ from contextlib import contextmanager
 from pathlib import Path
 from typing import TypeVar
 
-from PyQt6.QtCore import QEventLoop, Qt, QTimer
+from PyQt6.QtCore import QEventLoop, QSize, Qt, QTimer
 from PyQt6.QtGui import QFont, QKeyEvent
 from PyQt6.QtWidgets import (
     QCheckBox,
+    QComboBox,
     QDialog,
     QDialogButtonBox,
     QFileDialog,
     QFontDialog,
-    QFormLayout,
     QInputDialog,
     QLabel,
     QLineEdit,
@@ -29,12 +29,19 @@ from scribe.window.fields import Field, lines_of
 from scribe.window.worker import Worker
 
 Result = TypeVar("Result")
+Part = TypeVar("Part", bound=QWidget)
 #: Says how far something is that takes long; and whether it is to end.
 Say = Callable[[str], None]
 IsStopped = Callable[[], bool]
 # when a dialog of progress is shown, and how often what it says is looked at
 _SHOWN_AFTER_SECONDS = 0.4
 _PACE_MILLISECONDS = 100
+# what a frame has around a dialog, with its title
+_LESS_FOR_FRAME = -8, -40
+# so many letters are in a line of what is asked, where the screen has room, and what is beside it
+_LINE, _BESIDE = 50, 60
+# how wide dialogs are, where the screen is
+_WIDTH, _FOLDER_WIDTH = 480, 560
 
 
 @contextmanager
@@ -52,6 +59,38 @@ def _back_to(over: QWidget | None, dialog: QDialog | None = None) -> Iterator[No
             over.activateWindow()
 
 
+def _fit(dialog: QDialog, width: int = 0, height: int = 0) -> None:
+    """Has a dialog be as large as it needs to be, of a size at least, and whole on the screen.
+
+    Where letters are large its words go on in the next line, and its buttons stand below each other.
+    """
+    screen = dialog.screen()
+    assert screen is not None
+    room = screen.availableGeometry().adjusted(0, 0, *_LESS_FOR_FRAME).size()
+    for label in _within(dialog, QLabel):
+        label.setWordWrap(True)
+        letters = label.fontMetrics()
+        longest = max(map(letters.horizontalAdvance, label.text().split("\n")))
+        line = letters.averageCharWidth() * _LINE
+        least = min(longest, line, room.width() - _BESIDE)
+        # a narrower one is made wide enough by Qt, for which it may not be said to be
+        if least > min(room.width() // 2, _WIDTH):
+            label.setMinimumWidth(least)
+    for names in _within(dialog, QComboBox):
+        policy = QComboBox.SizeAdjustPolicy.AdjustToMinimumContentsLengthWithIcon
+        names.setSizeAdjustPolicy(policy)
+    for buttons in _within(dialog, QDialogButtonBox):
+        if buttons.sizeHint().width() > room.width():
+            buttons.setOrientation(Qt.Orientation.Vertical)
+    wanted = QSize(width, height).expandedTo(dialog.sizeHint())
+    dialog.resize(wanted.boundedTo(room))
+
+
+def _within(dialog: QDialog, kind: type[Part]) -> list[Part]:
+    """The parts of a kind that a dialog has."""
+    return [each for each in dialog.findChildren(kind) if isinstance(each, kind)]
+
+
 def choice(
     over: QWidget | None, title: str, sentence: str, answers: Sequence[str]
 ) -> int:
@@ -67,6 +106,7 @@ def choice(
         buttons.append(button)
     box.setDefaultButton(buttons[0])
     box.setEscapeButton(buttons[-1])
+    _fit(box)
     with _back_to(over, box):
         box.exec()
     clicked = box.clickedButton()
@@ -82,11 +122,42 @@ def text(
     changed: Callable[[str], None] | None = None,
 ) -> str | None:
     """Asks for a line; none where it is given up."""
-    dialog = QInputDialog(over)
+    return _line(QInputDialog(over), title, asked, first, changed)
+
+
+def text_further(
+    over: QWidget,
+    title: str,
+    asked: str,
+    first: str,
+    changed: Callable[[str], None],
+) -> str | None:
+    """Asks for a line, of which a part was typed before, and stays where more is typed."""
+    return _line(_LineFurther(over), title, asked, first, changed)
+
+
+class _LineFurther(QInputDialog):
+    """A line that is typed further: Qt selects all of it, which the next letter would replace."""
+
+    def setVisible(self, visible: bool) -> None:
+        """Has the caret be at the end, and selects nothing."""
+        super().setVisible(visible)
+        for line in _within(self, QLineEdit):
+            line.end(False)
+
+
+def _line(
+    dialog: QInputDialog,
+    title: str,
+    asked: str,
+    first: str,
+    changed: Callable[[str], None] | None,
+) -> str | None:
+    over = dialog.parentWidget()
     dialog.setWindowTitle(title)
     dialog.setLabelText(asked)
     dialog.setTextValue(first)
-    dialog.resize(480, dialog.height())
+    _fit(dialog, _WIDTH)
 
     def typed(line: str) -> None:
         if changed is not None:
@@ -106,9 +177,15 @@ def one_of(
     over: QWidget, title: str, asked: str, names: Sequence[str], first: int
 ) -> str | None:
     """Asks for one of several names; none where it is given up."""
-    with _back_to(over):
-        name, is_given = QInputDialog.getItem(over, title, asked, names, first, False)
-    return name if is_given else None
+    dialog = QInputDialog(over)
+    dialog.setWindowTitle(title)
+    dialog.setLabelText(asked)
+    dialog.setComboBoxItems(names)
+    dialog.setTextValue(names[first])
+    longest = max(map(dialog.fontMetrics().horizontalAdvance, (asked, *names)))
+    _fit(dialog, longest + _BESIDE)
+    with _back_to(over, dialog):
+        return dialog.textValue() if dialog.exec() else None
 
 
 def fields(
@@ -122,26 +199,28 @@ def fields(
     """Asks for several lines, and whether some things hold; none where it is given up."""
     dialog = QDialog(over)
     dialog.setWindowTitle(title)
-    dialog.resize(480, dialog.height())
-    form = QFormLayout(dialog)
-    form.setRowWrapPolicy(QFormLayout.RowWrapPolicy.WrapAllRows)
+    column = QVBoxLayout(dialog)
     lines = [QLineEdit(text) for text in first]
 
     def typed() -> list[str]:
         return [_in_a_line(line.text()) for line in lines]
 
     for words, line in zip(asked, lines):
-        form.addRow(words, line)
+        label = QLabel(words)
+        label.setBuddy(line)
+        column.addWidget(label)
+        column.addWidget(line)
         line.textChanged.connect(lambda _: changed(typed()))
     boxes = [QCheckBox(words) for words in checks]
     for box in boxes:
-        form.addRow(box)
+        column.addWidget(box)
     kinds = QDialogButtonBox.StandardButton
     buttons = QDialogButtonBox(kinds.Ok | kinds.Cancel)
     buttons.accepted.connect(dialog.accept)
     buttons.rejected.connect(dialog.reject)
-    form.addRow(buttons)
+    column.addWidget(buttons)
     lines[0].selectAll()
+    _fit(dialog, _WIDTH)
     with _back_to(over, dialog):
         is_given = dialog.exec()
     if not is_given:
@@ -183,7 +262,6 @@ def folder(over: QWidget, title: str, asked: str, first: str) -> str | None:
     """Asks for the path of a folder, which may be typed or looked for."""
     dialog = QDialog(over)
     dialog.setWindowTitle(title)
-    dialog.resize(560, dialog.height())
     line, label = QLineEdit(first), QLabel(asked)
     label.setBuddy(line)
     line.selectAll()
@@ -205,6 +283,7 @@ def folder(over: QWidget, title: str, asked: str, first: str) -> str | None:
     column = QVBoxLayout(dialog)
     for part in (label, line, buttons):
         column.addWidget(part)
+    _fit(dialog, _FOLDER_WIDTH)
     with _back_to(over, dialog):
         return line.text() if dialog.exec() else None
 
@@ -235,7 +314,6 @@ class _Lines(QDialog):
         super().__init__(over)
         self._over = over
         self.setWindowTitle(title)
-        self.resize(640, 400)
         self._field = Field(title, True)
         self._field.setPlainText("\n".join(lines))
         column = QVBoxLayout(self)
@@ -252,6 +330,7 @@ class _Lines(QDialog):
         self._field.entered.connect(self.accept)
         self._field.left.connect(self.reject)
         self._field.setFocus()
+        _fit(self, 640, 400)
 
     def read(self) -> int | None:
         """Shows them, and gives the line of the caret where that is gone to."""
@@ -282,14 +361,13 @@ class _Progress(QDialog):
     def __init__(self, over: QWidget, title: str) -> None:
         super().__init__(over)
         self.setWindowTitle(f"{title}: please wait")
-        self.resize(480, 120)
         self._label = QLabel(f"{title}. Please wait.")
-        self._label.setWordWrap(True)
         self._cancel = _Cancel()
         self._cancel.clicked.connect(self.reject)
         column = QVBoxLayout(self)
         column.addWidget(self._label)
         column.addWidget(self._cancel)
+        _fit(self, _WIDTH, 120)
         self.said = ""
         self.is_stopped = False
 
@@ -297,6 +375,9 @@ class _Progress(QDialog):
         """Shows what was said last."""
         if self.said and not self.is_stopped:
             self._label.setText(self.said)
+            # it doesn't become lower again, so that its button stays where it is
+            height = self.heightForWidth(self.width())
+            self.resize(self.width(), max(self.height(), height))
 
     def reject(self) -> None:
         """Has the work end, for which the dialog waits."""

@@ -7,8 +7,9 @@ import re
 from collections.abc import Callable, Sequence
 from pathlib import Path
 
-from PyQt6.QtCore import QEvent, QMimeData, Qt, pyqtSignal
+from PyQt6.QtCore import QEvent, QMimeData, Qt, QTimer, pyqtSignal
 from PyQt6.QtGui import (
+    QDropEvent,
     QFocusEvent,
     QFont,
     QKeyEvent,
@@ -25,6 +26,10 @@ from braildesk.text.spans import Span
 
 #: How wide the line around the part is that has the focus, and around the others.
 FRAME_WITH_FOCUS, _FRAME = 3, 1
+#: What is above and below the lines of a text, in pixels.
+AROUND = FRAME_WITH_FOCUS + 5
+# so many lines of a text are seen at least, in any font
+_LEAST_LINES = 2
 _BEYOND = "\U00010000"
 #: What Qt puts where a line of a text ends.
 LINE_END = "\u2029"
@@ -58,6 +63,8 @@ class Field(QPlainTextEdit):
     left = pyqtSignal()
     #: A word was clicked on twice.
     doubled = pyqtSignal()
+    #: Characters were typed where nothing can be typed.
+    typed_on = pyqtSignal(str)
 
     def __init__(self, name: str, is_read_only: bool) -> None:
         self._lights: tuple[Sequence[Span], Span | None] = (), None
@@ -97,6 +104,8 @@ class Field(QPlainTextEdit):
         self._font = QFont(family)
         self._font.setPointSizeF(size)
         self.setFont(self._font)
+        lines = self.fontMetrics().lineSpacing() * _LEAST_LINES
+        self.setMinimumHeight(lines + 2 * AROUND)
 
     def changeEvent(self, event: QEvent | None) -> None:
         """What is lit has the colours of the desktop, which may be others now; the font stays."""
@@ -193,6 +202,8 @@ class Field(QPlainTextEdit):
         elif key == Qt.Key.Key_Escape:
             self.left.emit()
         else:
+            if self.isReadOnly() and _is_letter(event):
+                self.typed_on.emit(event.text())
             super().keyPressEvent(event)
 
     def mouseDoubleClickEvent(self, event: QMouseEvent | None) -> None:
@@ -205,13 +216,15 @@ class Field(QPlainTextEdit):
 class Print(Field):
     """The print of a paragraph, which is typed."""
 
-    #: Several lines were pasted or dropped; or files; or what has no text.
+    #: Several lines were pasted or dropped, with an empty one after them if the last was ended, or a
+    #: blank; or files; or what has no text.
     pasted = pyqtSignal(list)
     files_pasted = pyqtSignal(list)
     nothing_pasted = pyqtSignal()
 
     def __init__(self) -> None:
         super().__init__("Print", False)
+        self._is_dropped = False
 
     def event(self, event: QEvent | None) -> bool:
         """Undo is an action of the desk, which knows whether something is typed.
@@ -251,11 +264,43 @@ class Print(Field):
             return
         lines = lines_of(text)
         if len(lines) > 1:
-            self.pasted.emit(lines)
+            self._hand_on(_with_end(self._parted(lines, text), text))
         elif lines:
-            self.textCursor().insertText(lines[0])
+            self.textCursor().insertText(*self._parted(lines, text))
         # the caret is seen where the text ends
         self.ensureCursorVisible()
+
+    def _parted(self, lines: list[str], text: str) -> list[str]:
+        """Lines of a text, parted by a blank from words here if it has one there or an end of a line."""
+        here = self.selected
+        front, back = self.text[: here.start], self.text[here.stop :]
+        *above, last = lines
+        if not above and text[-1:].isspace() and _are_run_together(last, back):
+            last += " "
+        first, *others = [*above, last]
+        if text[:1].isspace() and _are_run_together(front, first):
+            first = f" {first}"
+        return [first, *others]
+
+    def _hand_on(self, lines: list[str]) -> None:
+        """Has lines be asked about, for which the program from which they are dropped doesn't wait."""
+        if self._is_dropped:
+            QTimer.singleShot(0, lambda: self.pasted.emit(lines))
+        else:
+            self.pasted.emit(lines)
+
+    def dropEvent(self, event: QDropEvent | None) -> None:
+        """A text that is dropped stays where it comes from, also if it isn't typed in the end."""
+        if event is None:
+            return
+        is_own = event.source() is self.viewport()
+        self._is_dropped = True
+        try:
+            super().dropEvent(event)
+        finally:
+            self._is_dropped = False
+        if not is_own:
+            event.setDropAction(Qt.DropAction.CopyAction)
 
     def canInsertFromMimeData(self, source: QMimeData | None) -> bool:
         """Text goes in; a file that is dropped is for the window."""
@@ -274,6 +319,14 @@ class Cells(Field):
         """Has a letter do what its action does."""
         if event is None or not self._letter(event):
             super().keyPressEvent(event)
+
+
+def _is_letter(event: QKeyEvent) -> bool:
+    """Whether a key types something, and isn't one of the desk's."""
+    keys = Qt.KeyboardModifier
+    held = keys.ControlModifier | keys.AltModifier | keys.MetaModifier
+    text = event.text()
+    return bool(text) and text.isprintable() and not event.modifiers() & held
 
 
 def frame(area: QFrame, has_focus: bool) -> int:
@@ -310,6 +363,20 @@ def text_of(source: QMimeData) -> str:
     if source.hasText() or not source.hasHtml():
         return source.text()
     return QTextDocumentFragment.fromHtml(source.html()).toPlainText()
+
+
+def _are_run_together(before: str, after: str) -> bool:
+    """Whether the words of two texts would be one, without a blank between them."""
+    return bool(before[-1:].strip() and after[:1].strip())
+
+
+def _with_end(lines: list[str], text: str) -> list[str]:
+    """The lines of a text with what parts them from what comes after them, if anything does."""
+    *above, last = lines
+    end = _LINE_END.split(text)[-1]
+    if not end.strip():
+        return [*lines, ""]
+    return [*above, last if end == end.rstrip() else f"{last} "]
 
 
 def lines_of(text: str) -> list[str]:

@@ -63,7 +63,7 @@ class Marking:
             words = desk.asked(partial(desk.book.words_of, reading, cells))
             asked = f"The note of a mark on {quoted(words)}, {cells.counted('cell')}:"
             title = f"Mark in paragraph {number}"
-            found = dialogs.text(desk.window, title, asked, note, typed)
+            found = dialogs.text_further(desk.window, title, asked, note, typed)
             if found is None:
                 self._given_up()
                 return

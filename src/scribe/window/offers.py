@@ -16,6 +16,7 @@ from scribe.words.drafts import (
     changed_since,
     not_kept,
     what_for,
+    without_paragraph,
     where_typed,
     words_wait,
 )
@@ -92,9 +93,9 @@ class Offers:
             )
 
     def _changed(self, waiting: Draft) -> str:
-        """That the print at which a text was typed has been changed since; or nothing."""
+        """That the print at which a text was typed is another since, or isn't there; or nothing."""
         desk, row = self.desk, self.desk.contents.place(waiting.paragraph)
         if row is None:
-            return ""
+            return without_paragraph(waiting)
         session, number = desk.book.session, desk.contents.paragraphs[row].id
         return changed_since(waiting, desk.asked(lambda: session.print_of(number)))

@@ -3,7 +3,7 @@
 from collections.abc import Callable, Sequence
 from typing import Any
 
-from PyQt6.QtCore import QAbstractTableModel, QModelIndex, Qt, QTimer
+from PyQt6.QtCore import QAbstractTableModel, QEvent, QModelIndex, Qt, QTimer
 from PyQt6.QtGui import QFocusEvent, QKeyEvent
 from PyQt6.QtWidgets import QAbstractItemView, QTableView
 
@@ -18,6 +18,10 @@ _COLUMNS = ("Number", "Kind", "Open marks", "First words")
 WORDS = len(_COLUMNS) - 1
 # what is above and below the words of a row, in pixels
 _ROW_MARGIN = 8
+# what most rows have in the columns before the words, which is seen whole; and so many rows are seen
+_USUAL = ("20,000", "heading", "10 open marks")
+_LEAST_WIDTHS = (0, 140, 0)
+_LEAST_ROWS = 2
 # how many paragraphs are read at once
 _BATCH = 128
 
@@ -137,7 +141,27 @@ class Table(QTableView):
         header.setStretchLastSection(True)
         header.setHighlightSections(False)
         numbers.hide()
-        numbers.setDefaultSectionSize(self.fontMetrics().lineSpacing() + _ROW_MARGIN)
+        self._measure()
+
+    def _measure(self) -> None:
+        """Has the rows and the columns be as large as the letters."""
+        header, numbers = self.horizontalHeader(), self.verticalHeader()
+        assert header is not None and numbers is not None
+        row = self.fontMetrics().lineSpacing() + _ROW_MARGIN
+        numbers.setDefaultSectionSize(row)
+        for column in range(WORDS):
+            words = self.fontMetrics().horizontalAdvance(_USUAL[column]) + _ROW_MARGIN
+            least = max(words, header.sectionSizeHint(column), _LEAST_WIDTHS[column])
+            header.resizeSection(column, least)
+        height = header.sizeHint().height() + _LEAST_ROWS * row
+        self.setMinimumHeight(height + 2 * self.frameWidth())
+
+    def changeEvent(self, event: QEvent | None) -> None:
+        """The letters of the desktop may be larger now."""
+        if event is not None:
+            super().changeEvent(event)
+            if event.type() == QEvent.Type.FontChange:
+                self._measure()
 
     def focusInEvent(self, event: QFocusEvent | None) -> None:
         """Tells a screen reader of the chosen row too, and not of the table alone."""

@@ -17,7 +17,7 @@ from braildesk.text.spans import Span
 
 from scribe.window import dialogs
 from scribe.window.book import Done, NotAll, NothingToTakeBack, ChosenParagraph
-from scribe.window.desk import Desk, New
+from scribe.window.desk import CLOSED, Desk, New
 from scribe.window.dialogs import IsStopped, Say
 from scribe.words.drafts import what_for
 from scribe.words.paragraph import quoted
@@ -173,30 +173,67 @@ class Typed:
             self.typed_lines(lines)
 
     def pasted(self, lines: Sequence[str]) -> None:
-        """Asks what lines are that were pasted where the caret is."""
+        """Asks what lines are that were pasted where the caret is.
+
+        The last one is empty if the one before it was ended.
+        """
         desk, field = self.desk, self.desk.window.print
         if field.isReadOnly():
             return
         table = desk.table_of_typed() or ""
         tables = desk.book.tables
         fault = desk.ahead.result(lambda: tables.first_fault(table, lines))
-        asked = f"{len(lines):,} lines were pasted. Are they paragraphs?"
+        asked = f"{sum(map(bool, lines)):,} lines were pasted. Are they paragraphs?"
         answers = ("&Paragraphs", "&One paragraph", "&Neither")
         said = f"{fault} {asked}".strip()
+        whole, selected = desk.typed_text(), field.selected
+        front, back = whole[: selected.start], whole[selected.stop :]
+        is_before = self._is_before(front, lines, back)
+        paragraphs = lines[:-1] if is_before else _between(front, lines, back)
+        aim = Aim.BEFORE if is_before else None
+        # until that is answered the lines wait as paragraphs
+        self._wait(self._draft_of(paragraphs, aim))
         answer = dialogs.choice(desk.window, "Pasted lines", said, answers)
+        if desk.is_ending:
+            return
+        desk.beside = None
+        if answer == 0:
+            if is_before:
+                desk.begin_new(New(Aim.BEFORE, desk.number, desk.table_of_new()))
+            self.typed_lines(paragraphs)
+            return
         if answer == 1:
-            field.textCursor().insertText(" ".join(lines))
-        elif answer == 0:
-            field.textCursor().insertText(lines[0])
-            self.typed_lines([desk.typed_text(), *lines[1:]])
+            joined = " ".join(lines)
+            if not back[:1].strip():
+                joined = joined.rstrip()
+            field.textCursor().insertText(joined)
+        desk.keep_draft(desk.draft())
+
+    def _is_before(self, front: str, lines: Sequence[str], back: str) -> bool:
+        """Whether pasted lines are before a whole paragraph, which stays as it is, with its marks."""
+        is_whole = self.desk.new is None and not front and back == self.desk.before()
+        return is_whole and bool(back) and not lines[-1]
+
+    def _draft_of(self, lines: Sequence[str], aim: Aim | None = None) -> Draft:
+        """Lines that become paragraphs: the first is what is typed, unless they go before that."""
+        desk, new = self.desk, self.desk.new
+        table, text = desk.table_of_typed() or desk.table_of_new(), "\n".join(lines)
+        if aim is not None:
+            return Draft(aim, desk.number, table, "", text)
+        its = (new.aim, new.paragraph) if new else (Aim.EDIT, desk.number)
+        return Draft(*its, table, desk.before(), text)
 
     def typed_lines(self, lines: Sequence[str]) -> None:
         """Types paragraphs: the first is what is typed, the others come after it."""
         desk = self.desk
         reading, new, number = desk.reading, desk.new, desk.number
         table = desk.table_of_typed() or desk.table_of_new()
-        aim, beside = (new.aim, new.paragraph) if new else (Aim.EDIT, number)
-        whole = Draft(aim, beside, table, desk.before(), "\n".join(lines))
+        whole = self._draft_of(lines)
+        if desk.is_closed:
+            # what is typed on in the print has to wait by itself
+            said = f"{CLOSED} {what_for(whole)} isn't in the book. {desk.put_by(whole)}"
+            desk.keep_draft(desk.draft())
+            raise Stop(said)
         self._wait(whole)
         commands: list[Callable[[int | None], Command[Any]]] = []
         if new is not None:
@@ -221,16 +258,19 @@ class Typed:
     def _corrected_first(
         self, reading: ChosenParagraph, line: str, others: Draft | None
     ) -> None:
-        """Makes the chosen paragraph the first of some lines; of a refusal no line is lost."""
-        desk = self.desk
+        """Makes the chosen paragraph the first of some lines, which stays typed if it is refused."""
+        desk, field = self.desk, self.desk.window.print
         try:
             done = desk.asked(lambda: desk.book.corrected(reading, line))
-        except Refused:
+        except Refused as refused:
+            field.selectAll()
+            field.textCursor().insertText(line)
+            more = ""
             if others is not None:
-                desk.put_by(others)
+                more = f"What comes after it was given up. {desk.put_by(others)}"
             desk.have_wait(None)
             desk.keep_draft(desk.draft())
-            raise
+            raise Stop(f"{refused.sentence} {more}".rstrip()) from refused
         if done is not None:
             desk.show_done(done)
 
@@ -278,6 +318,13 @@ class Typed:
             desk.beside = left
             with suppress(NotKept):
                 desk.unsent.keep(left)
+
+
+def _between(front: str, lines: Sequence[str], back: str) -> list[str]:
+    """Pasted lines between what stands before the caret and what stands after it."""
+    first, *others, last = lines
+    rest = last + back if last and back else last.rstrip() or back.lstrip()
+    return [front + first, *others, *([rest] if rest.strip() else [])]
 
 
 def _typed_after(

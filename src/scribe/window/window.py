@@ -3,18 +3,22 @@
 from collections.abc import Callable, Mapping, Sequence
 from pathlib import Path
 
-from PyQt6.QtCore import QSettings, Qt, pyqtSignal
+from PyQt6.QtCore import QSettings, QSize, Qt, pyqtSignal
 from PyQt6.QtGui import (
     QCloseEvent,
     QDragEnterEvent,
     QDropEvent,
     QFont,
     QKeyEvent,
+    QResizeEvent,
 )
 from PyQt6.QtWidgets import (
+    QApplication,
     QDockWidget,
+    QFrame,
     QLabel,
     QMainWindow,
+    QScrollArea,
     QSplitter,
     QVBoxLayout,
     QWidget,
@@ -22,12 +26,7 @@ from PyQt6.QtWidgets import (
 
 from braildesk.text.spans import Span
 
-from scribe.window.fields import (
-    FRAME_WITH_FOCUS,
-    Cells,
-    Field,
-    Print,
-)
+from scribe.window.fields import AROUND, Cells, Field, Print
 from scribe.window.menus import Menus
 from scribe.window.paragraphs import WORDS, Paragraphs, Table
 
@@ -37,13 +36,14 @@ _PRINT_FONT = "DejaVu Sans"
 _PRINT_POINTS, _CELL_POINTS = 14.0, 20.0
 _LEAST_POINTS, _MOST_POINTS = 6.0, 72.0
 _LARGER = 1.15
+# how large a window is at first, where the screen is
+_SIZE = QSize(960, 720)
 # how the table, the texts and the marks share the room
 _HEIGHTS = [180, 270, 70]
-# the lines of what is said
-_MESSAGE_LINES = 3
+# the lines of the place and of the message, and those where the window has fewer lines in all
+_LINES, _LINES_IF_LOW = (2, 3), (1, 2)
+_LOW = 20
 _MARGIN = 6
-# what is above and below the lines of a text
-_AROUND = FRAME_WITH_FOCUS + 5
 _PAGE_WIDTH = 360
 
 
@@ -90,16 +90,15 @@ class Window(QMainWindow):
         for part, height in enumerate(_HEIGHTS):
             halves.setStretchFactor(part, height)
         self.halves = halves
+        self._scroll = self._scrolled(halves)
         place = QLabel("Place")
         said = QLabel("Message")
-        whole = self._column(halves, place, self.here, said, self.message)
+        whole = self._column(self._scroll, place, self.here, said, self.message)
         column = whole.layout()
         assert column is not None
         column.setContentsMargins(_MARGIN, _MARGIN, _MARGIN, _MARGIN)
         self.setCentralWidget(whole)
-        for field, lines in ((self.here, 2), (self.message, _MESSAGE_LINES)):
-            height = field.fontMetrics().lineSpacing() * lines + 2 * _AROUND
-            field.setFixedHeight(height)
+        self._share_room()
         self.dock = QDockWidget("Page", self)
         self.dock.setObjectName("page")
         self.dock.setWidget(self.page)
@@ -107,6 +106,48 @@ class Window(QMainWindow):
         self.addDockWidget(Qt.DockWidgetArea.RightDockWidgetArea, self.dock)
         self.dock.hide()
         self.page.setLineWrapMode(Field.LineWrapMode.NoWrap)
+
+    def _scrolled(self, whole: QWidget) -> QScrollArea:
+        """What shows a part of something where a screen is too low for all, as with large letters."""
+        area = QScrollArea()
+        area.setWidget(whole)
+        area.setWidgetResizable(True)
+        area.setFrameShape(QFrame.Shape.NoFrame)
+        area.setFocusPolicy(Qt.FocusPolicy.NoFocus)
+        application = QApplication.instance()
+        assert isinstance(application, QApplication)
+        application.focusChanged.connect(self._bring_in_sight)
+        for field in (self.print, self.cells, self.marks):
+            field.cursorPositionChanged.connect(self._bring_in_sight)
+        return area
+
+    def _bring_in_sight(self) -> None:
+        """Has the part with the focus, and its caret, be in sight."""
+        part = self.focusWidget()
+        if part is None or not self.halves.isAncestorOf(part):
+            return
+        self._scroll.ensureWidgetVisible(part, 0, 0)
+        if isinstance(part, Field):
+            caret, seen = part.cursorRect(), self._scroll.viewport()
+            assert seen is not None
+            at = part.mapTo(self.halves, caret.center())
+            around = min(caret.height(), seen.height()) // 2
+            self._scroll.ensureVisible(at.x(), at.y(), 0, around)
+
+    def _share_room(self) -> None:
+        """Leaves room for what is worked on, also where letters are large or the window is low."""
+        is_low = self.height() < _LOW * self.fontMetrics().lineSpacing()
+        lines = _LINES_IF_LOW if is_low else _LINES
+        for field, count in zip((self.here, self.message), lines):
+            height = field.fontMetrics().lineSpacing() * count + 2 * AROUND
+            field.setFixedHeight(height)
+
+    def resizeEvent(self, event: QResizeEvent | None) -> None:
+        """What has the focus stays in sight."""
+        if event is not None:
+            super().resizeEvent(event)
+            self._share_room()
+            self._bring_in_sight()
 
     def _column(self, *parts: QWidget) -> QWidget:
         whole = QWidget()
@@ -179,7 +220,9 @@ class Window(QMainWindow):
             points = settings.value(f"{name}/points", points, float)
             points = max(_LEAST_POINTS, min(points, _MOST_POINTS))
             field.show_in(family, points)
-        self.resize(960, 720)
+        screen = self.screen()
+        assert screen is not None
+        self.resize(_SIZE.boundedTo(screen.availableSize()))
         if (value := settings.value("geometry")) is not None:
             self.restoreGeometry(value)
         if (value := settings.value("state")) is not None:

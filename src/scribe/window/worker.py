@@ -7,11 +7,13 @@ from concurrent.futures import TimeoutError as NotYet
 from threading import Condition, Thread
 from typing import Any, TypeVar, cast
 
-from PyQt6.QtCore import QEventLoop, QObject, pyqtSignal
+from PyQt6.QtCore import QEventLoop, QObject, QTimer, pyqtSignal
 
 Result = TypeVar("Result")
 # how long the window waits without even being drawn
 _MOMENT_SECONDS = 0.05
+# after how long that is said
+_LONG_MILLISECONDS = 2_000
 
 
 class _Job:
@@ -40,6 +42,8 @@ class _Job:
 class Worker(QObject):
     """A thread, and what waits to be done there, one after the other."""
 
+    #: The window waits for long; or doesn't any more.
+    waits = pyqtSignal(bool)
     _done = pyqtSignal(object)
 
     def __init__(self) -> None:
@@ -64,11 +68,20 @@ class Worker(QObject):
             # a time that ran out within the work looks the same
             if job.future.done():
                 raise
-        loop = QEventLoop()
+        self._wait_for(job)
+        return cast(Result, job.future.result())
+
+    def _wait_for(self, job: _Job) -> None:
+        loop, long = QEventLoop(), QTimer()
         flags = QEventLoop.ProcessEventsFlag
+        long.setSingleShot(True)
+        long.timeout.connect(lambda: self.waits.emit(True))
+        long.start(_LONG_MILLISECONDS)
         while not job.future.done():
             loop.processEvents(flags.ExcludeUserInputEvents | flags.WaitForMoreEvents)
-        return cast(Result, job.future.result())
+        if not long.isActive():
+            self.waits.emit(False)
+        long.stop()
 
     def post(
         self, act: Callable[[], Result], then: Callable[["Future[Result]"], None]

@@ -1,0 +1,166 @@
+"""The window and its dialogs where letters are large and the screen is low: all of it can be reached."""
+
+from collections.abc import Callable, Iterator
+from pathlib import Path
+from threading import Event
+from types import SimpleNamespace
+
+import pytest
+from PyQt6.QtCore import QPoint, QSize, QTimer
+from PyQt6.QtWidgets import (
+    QAbstractScrollArea,
+    QApplication,
+    QLabel,
+    QPushButton,
+    QWidget,
+)
+
+from braildesk import Paragraph, Style
+
+from scribe.window import dialogs
+from scribe.window.menus import MENUS
+from scribe.window.paragraphs import WORDS
+from scribe.window.window import Window
+from scribe.window.worker import Worker
+
+from test_contrast import wait
+
+LOW = QSize(640, 480)
+# the words of a paragraph, as a question quotes them
+QUOTED = "“Der Begriff „freie Software“ bezieht sich…”"
+
+Ask = Callable[[QWidget], object]
+
+
+@pytest.fixture
+def large(application: QApplication) -> Iterator[None]:
+    """Letters that a person with low sight chose for the whole desktop."""
+    before = application.font()
+    its = application.font()
+    its.setPointSizeF(32)
+    application.setFont(its)
+    yield
+    application.setFont(before)
+
+
+@pytest.fixture
+def window(large: None) -> Iterator[Window]:
+    """A window without a book."""
+    found = _window()
+    yield found
+    found.close()
+
+
+def _window() -> Window:
+    names = (each.name for items in MENUS.values() for each in items if each)
+    acts = {name: lambda: None for name in names}
+    found = Window("moon.braildesk", lambda numbers: None, acts, lambda: True)
+    found.model.show((Paragraph(1, "en", Style.BODY, False, False, 8),))
+    return found
+
+
+def test_a_new_window_is_no_larger_than_the_screen(
+    application: QApplication, monkeypatch: pytest.MonkeyPatch
+) -> None:
+    screen = SimpleNamespace(availableSize=lambda: LOW)
+    monkeypatch.setattr(Window, "screen", lambda window: screen)
+    window = _window()
+    assert window.size() == LOW
+    window.close()
+
+
+def test_a_low_window_shows_the_message_and_the_part_with_the_focus(
+    application: QApplication, window: Window
+) -> None:
+    window.enlarge(9)
+    window.show()
+    window.resize(LOW)
+    window.activateWindow()
+    assert wait(application, 60, window.isActiveWindow) and window.size() == LOW
+    assert _is_seen(window.message, window.message.contentsRect().center())
+    window.cells.show_text("⠠⠍⠕⠕⠝")
+    window.cells.setFocus()
+    assert _is_seen(window.cells, window.cells.cursorRect().center())
+    window.table.setFocus()
+    row = window.table.visualRect(window.model.index(0, 0))
+    assert _is_seen(window.table, row.center())
+
+
+def _is_seen(part: QAbstractScrollArea, at: QPoint) -> bool:
+    viewport = part.viewport()
+    return viewport is not None and viewport.visibleRegion().contains(at)
+
+
+def test_the_names_of_the_columns_are_whole(window: Window) -> None:
+    header = window.table.horizontalHeader()
+    assert header is not None
+    for column in range(WORDS):
+        assert header.sectionSize(column) >= header.sectionSizeHint(column)
+
+
+def _progress(over: QWidget) -> None:
+    worker, ended = Worker(), Event()
+
+    def act(say: dialogs.Say, is_stopped: dialogs.IsStopped) -> None:
+        say(f"1,000 of 3,000 paragraphs are laid out. {QUOTED} {QUOTED}")
+        while not (is_stopped() or ended.wait(0.01)):
+            pass
+
+    dialogs.long(over, worker, "Export", act)
+    worker.stop()
+
+
+ASKED: dict[str, Ask] = {
+    "a note": lambda over: dialogs.text(
+        over, "Mark", f"The note of a mark on {QUOTED}, cells 101 to 145:"
+    ),
+    "one of some texts": lambda over: dialogs.one_of(
+        over, "Bring back", "Which?", [f"1. A text of paragraph 12: {QUOTED}"], 0
+    ),
+    "words": lambda over: dialogs.fields(
+        over, "Change", ("&Words:", f"What comes in place of {QUOTED}:"), ("", ""), ()
+    ),
+    "a folder": lambda over: dialogs.folder(
+        over, "Export", f"The folder to which the volumes of {QUOTED} go:", "pages"
+    ),
+    "a question": lambda over: dialogs.choice(
+        over,
+        "Unsent text",
+        f"A text was typed: {QUOTED}. It was typed when the book was {Path('books of Anna/moon')}."
+        " The print there has been changed since. Shall it be typed further?",
+        ("&Type it further", "&Give it up", "Change all the &rest", "&Later"),
+    ),
+    "what takes long": _progress,
+}
+
+
+@pytest.mark.parametrize("asked", ASKED.values(), ids=ASKED.keys())
+def test_a_dialog_is_whole_on_the_screen(
+    large: None, application: QApplication, asked: Ask
+) -> None:
+    over = QWidget()
+    found: list[tuple[QSize, list[str]]] = []
+
+    def look() -> None:
+        dialog = application.activeModalWidget()
+        parts = dialog.findChildren((QLabel, QPushButton)) if dialog else []
+        seen = [each for each in parts if isinstance(each, QLabel | QPushButton)]
+        if dialog is None or any("Please" in each.text() for each in seen):
+            QTimer.singleShot(10, look)
+            return
+        cut = [each.text() for each in seen if each.isVisible() and _is_cut(each)]
+        found.append((dialog.frameSize(), cut))
+        dialog.close()
+
+    QTimer.singleShot(0, look)
+    asked(over)
+    ((size, cut),) = found
+    screen = application.primaryScreen()
+    assert screen is not None and not cut
+    assert size.boundedTo(screen.availableSize()) == size
+
+
+def _is_cut(part: QLabel | QPushButton) -> bool:
+    if isinstance(part, QLabel):
+        return part.height() < part.heightForWidth(part.width())
+    return part.width() < part.minimumSizeHint().width()
