@@ -1,5 +1,6 @@
 """A terminal that a program reads, with scribe in it."""
 
+import mmap
 import os
 import signal
 import sys
@@ -16,13 +17,17 @@ import pyte  # type: ignore[import]
 import braildesk
 from braildesk import CannotOpen, Session
 from braildesk.protocol.sentences import Why
+
+from scribe.screen.keyboard import Keyboard, Stroke
 from tool import environment, is_taken_at_start, scribe_in_copy
 
 WAIT_SECONDS = 60
 # how long the screen may take to be drawn after a key; keys that do nothing draw nothing
 _DRAWN_SECONDS = 1
-# how long nothing is written once all is drawn, and how long Escape waits for a key with Alt
-_QUIET_SECONDS, _ESCAPE_SECONDS = 0.02, 0.15
+# how long nothing is written once all is drawn
+_QUIET_SECONDS = 0.02
+# how long Escape waits for a key with Alt, where it isn't seen that it was taken
+_ESCAPE_SECONDS = 0.15
 # longer than a question that comes by itself is on the screen before a key answers it
 _READING_SECONDS = 0.5
 # what shows the cursor once the screen is drawn to its end, and what hides it before
@@ -54,6 +59,31 @@ KEYS = {
 }
 
 
+class Escapes:
+    """How often scribe, in a copy of this process, has taken Escape for a key by itself."""
+
+    def __init__(self) -> None:
+        # both processes have it
+        self._shared = mmap.mmap(-1, 8)
+
+    @property
+    def count(self) -> int:
+        """How often it has."""
+        return int.from_bytes(self._shared[:8], "little")
+
+    def count_here(self) -> None:
+        """Counts them in this process from now on."""
+        last = Keyboard.last
+
+        def counted(keyboard: Keyboard) -> list[Stroke]:
+            found = last(keyboard)
+            count = self.count + found.count("escape")
+            self._shared[:8] = count.to_bytes(8, "little")
+            return found
+
+        setattr(Keyboard, "last", counted)
+
+
 class Terminal:
     """A terminal with scribe in it, and what its screen shows."""
 
@@ -68,11 +98,14 @@ class Terminal:
         #: How often the screen was drawn to its end, until now and until the last key.
         self._drawn = self._drawn_before = 0
         self._pressed_at, self._pressed = 0.0, ""
+        #: How many of Escape were pressed; those that scribe has taken, if that is seen.
+        self._escaped, self._escapes = 0, Escapes()
+        self._is_seen = not is_taken_at_start(more)
         self._errors = book.parent / "errors"
         words, first = ["edit", str(book)], environment(**settings)
         begin = begin_errors
-        if not is_taken_at_start(more):
-            begin = scribe_in_copy(words, first, begin_errors)
+        if self._is_seen:
+            begin = scribe_in_copy(words, first, self._begin)
         self._child = pexpect.spawn(
             sys.executable,
             ["-m", "scribe", *words],
@@ -112,14 +145,12 @@ class Terminal:
                 self.paste(name)
                 continue
             is_held = _is_held(name)
-            if self._pressed == "escape":
-                # on a busy machine Escape may be read late, and a key after it be taken as held
-                self.await_read()
-                self._pressed_at = time.monotonic()
+            self._await_escape()
             if self._pressed == "escape" or is_held and _is_held(self._pressed):
                 self._await_drawn()
             self._drawn_before, self._pressed_at = self._drawn, time.monotonic()
             self._pressed = name
+            self._escaped += name == "escape"
             self._child.send(_sent_for(name))
 
     def answer(self, name: str) -> None:
@@ -143,11 +174,29 @@ class Terminal:
 
     def send(self, text: str) -> None:
         """Sends characters all at once."""
+        self._await_escape()
         self._child.send(text)
+
+    def _await_escape(self) -> None:
+        """Waits until Escape was taken, if it was pressed last: on a busy machine that may be late.
+
+        A key that came before would be one with Alt.
+        """
+        if self._pressed != "escape":
+            return
+        if not self._is_seen:
+            self.await_read()
+            self._pressed_at = time.monotonic()
+            return
+        end = time.monotonic() + WAIT_SECONDS
+        while self._escapes.count < self._escaped:
+            assert time.monotonic() < end, self.lines
+            self._read(_QUIET_SECONDS)
 
     def _await_drawn(self) -> None:
         """Waits until the screen is drawn after the last key, and nothing more is written."""
-        least = self._pressed_at + (_ESCAPE_SECONDS if self._pressed == "escape" else 0)
+        is_late = self._pressed == "escape" and not self._is_seen
+        least = self._pressed_at + (_ESCAPE_SECONDS if is_late else 0)
         end = time.monotonic() + _DRAWN_SECONDS
         while time.monotonic() < end:
             is_written = self._read(_QUIET_SECONDS)
@@ -157,7 +206,7 @@ class Terminal:
 
     def paste(self, text: str) -> None:
         """Pastes a text as a terminal does, with an ending of each line that is that of Enter."""
-        self._child.send("\x1b[200~" + text.replace("\n", "\r") + "\x1b[201~")
+        self.send("\x1b[200~" + text.replace("\n", "\r") + "\x1b[201~")
 
     def wait(self, wanted: str) -> list[str]:
         """The lines, once one of them has what is waited for and the screen is drawn to its end."""
@@ -255,6 +304,10 @@ class Terminal:
             self._child.kill(signal.SIGKILL)
             self._child.wait()
         self._child.close()
+
+    def _begin(self) -> None:
+        begin_errors()
+        self._escapes.count_here()
 
     def _read(self, seconds: float = 0.5) -> bool:
         """Reads what is written within some time, and says whether anything was."""

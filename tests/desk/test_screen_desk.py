@@ -468,6 +468,7 @@ def test_what_an_import_did_is_said_also_if_another_program_takes_the_book_then(
         "The book is closed.",
         (typed, f"Another program has “{moon}” open. End that one first."),
     )
+    assert sat.lines[0].rstrip().endswith(f"last kept: {typed}")
     sat.press("enter")
     assert sat.state.message == (
         "The book is open again. It is at version 8 now; the screen said 7 last."

@@ -10,6 +10,7 @@ from braildesk.desk.readings import ParagraphReading
 from braildesk.text.spans import Span
 from braildesk.text.wrapping import columns
 
+from scribe.screen.desk import with_preview
 from scribe.screen.drawing import Drawing, draw
 from scribe.screen.field import Field, Purpose
 from scribe.screen.lines import HIGHLIGHTED, MARKED, rows
@@ -447,3 +448,17 @@ def test_a_lost_session_is_said_and_nothing_more_is_asked_for() -> None:
     assert drawn.texts()[-1] == (
         "Enter opens the book again  q ends  Up, Down look further"
     )
+
+
+def test_the_braille_of_what_was_typed_comes_under_no_other_text() -> None:
+    typed = Field(Purpose.EDIT, "The moon", 8)
+    asked, preview = replace(STATE, typed=typed), Preview("The moon", "⠠⠞⠓⠑")
+    later = replace(asked, typed=typed.inserted("!"))
+    assert with_preview(later, asked, preview) == replace(later, preview=preview)
+    for other in (
+        replace(STATE, typed=None),
+        replace(STATE.at(1), typed=typed),
+        replace(asked, version=8),
+        replace(asked, typed=Field(Purpose.AFTER, "It", 2)),
+    ):
+        assert with_preview(other, asked, preview) == other

@@ -104,6 +104,18 @@ def test_no_to_a_text_that_waits_keeps_it_and_it_comes_back(
     assert sat.state.typed and sat.state.typed.text == LONG
 
 
+@pytest.mark.parametrize("aim", [Aim.EDIT, Aim.NOTE])
+def test_a_text_whose_paragraph_an_older_file_lacks_is_said_to_be_a_new_paragraph(
+    moon: Path, sit: Sit, aim: Aim
+) -> None:
+    Drafts(moon).save(Draft(aim, 9, "en", "It was late.", "It was dark.", None, 20))
+    question = sit(moon).state.question
+    assert question is not None and question.sentence.endswith(
+        " and isn't in the book: “It was dark.”. The book has no paragraph 9, so it would be a"
+        " new paragraph. Shall it be typed further?"
+    )
+
+
 def test_the_question_says_how_many_lines_wait(moon: Path, sit: Sit) -> None:
     Drafts(moon).save(Draft(Aim.AFTER, 2, "en", "", "It rose.\nIt set.\nIt rose."))
     sat = sit(moon)
@@ -198,7 +210,7 @@ def test_pasted_lines_that_are_left_out_come_back(moon: Path, sit: Sit) -> None:
     paste(sat, ", it rose.\nIt set.")
     sat.press("escape")
     assert sat.state.message == (
-        "The pasted text isn't in the book. Once nothing is typed any more, U brings it back."
+        "These lines aren't in the book. Once nothing is typed any more, U brings them back."
     )
     assert sat.state.typed and sat.state.typed.text == "Oh"
     sat.press("escape", "U", "U", "y")
@@ -303,7 +315,7 @@ def test_lines_stand_on_the_screen_while_it_is_asked_what_they_are(
     sat.press("escape", "escape")
     assert "It rose. It set." not in sat.lines
     sat.press("U", "y")
-    assert asked(sat).startswith("The pasted text has 2 lines. Are they 2 paragraphs?")
+    assert asked(sat).startswith("What is typed has 2 lines. Are they 2 paragraphs?")
     assert "It rose. It set." in sat.lines
     sat.press("y")
     prints = [sat.state.openings[each.id].words for each in sat.state.book]
@@ -334,7 +346,7 @@ def test_long_lines_are_seen_from_their_front_while_it_is_asked_what_they_are(
     Drafts(moon).save(Draft(Aim.AFTER, 2, "en", "", f"{line}\n{line}"))
     sat = sit(moon)
     sat.press("y")
-    assert asked(sat).startswith("The pasted text has 2 lines. Are they 2 paragraphs?")
+    assert asked(sat).startswith("What is typed has 2 lines. Are they 2 paragraphs?")
     assert any("The sea comes up. The sea comes up." in each for each in sat.lines)
 
 

@@ -36,8 +36,9 @@ from scribe.screen.actions import (
 from scribe.screen.field import Field, Purpose
 from scribe.screen.keys import KEYS, keys_of, step
 from scribe.screen.lines import rows
-from scribe.screen.pasted_lines import pasted
+from scribe.screen.pasted_lines import pasted, waiting
 from scribe.screen.state import (
+    End,
     Opening,
     Pages,
     Pane,
@@ -486,6 +487,7 @@ def test_pasted_lines_of_a_new_paragraph_are_asked_about() -> None:
     assert state.question == Question(
         "The pasted text has 3 lines. Are they 3 paragraphs?",
         ("One", "Two", "Three It. "),
+        end=End.BLANK,
     )
     joined = step(state, "n").state
     assert joined.typed == Field(Purpose.AFTER, "One Two Three It. ", 14)
@@ -539,7 +541,7 @@ def test_what_is_typed_on_at_a_question_about_lines_goes_on_in_the_last() -> Non
     draft = draft_of(ended)
     assert draft and draft.text == "The moon rose.\nIt is night.\nDays"
     assert ended.question and ended.question.sentence == (
-        "The pasted text has 3 lines. Are they 3 paragraphs?"
+        "What is typed has 3 lines. Are they 3 paragraphs?"
     )
     lines = ("The moon rose.", "It is night.", "Days")
     assert step(ended, "y").asked == TypeAll(Purpose.AFTER, lines)
@@ -568,6 +570,39 @@ def test_enter_at_the_end_of_several_lines_that_came_at_once_parts_them_too() ->
     for key in "be":
         asked = step(asked, key).state
     assert asked.question and asked.question.lines == ("One.", "Two must", "be")
+
+
+def test_how_many_lines_there_are_is_said_of_those_that_are_there() -> None:
+    state = typed(Purpose.AFTER, "It rose.")
+    state = replace(state, ended=state.typed)
+    two = "What is typed has 2 lines. Are they 2 paragraphs?"
+    one = "What is typed is 1 line. Shall it be kept?"
+    for key, lines, said in (
+        (" ", ("It rose.", " "), two),
+        ("I", ("It rose.", " I"), two),
+        ("backspace", ("It rose.", " "), two),
+        ("backspace", ("It rose.", ""), one),
+        ("I", ("It rose.", "I"), two),
+        ("enter", ("It rose.", "I", ""), two),
+    ):
+        state = step(state, key).state
+        assert state.question and state.question.lines == lines
+        assert state.question.sentence == said
+
+
+def test_nothing_more_is_asked_of_a_line_that_waits_once_all_of_it_is_taken_out() -> (
+    None
+):
+    state = waiting(typed(Purpose.AFTER, ""), Purpose.AFTER, ["I"])
+    for key, said in (
+        ("t", "What is typed is 1 line. Shall it be kept?"),
+        ("backspace", "What is typed is 1 line. Shall it be kept?"),
+        ("backspace", None),
+    ):
+        state = step(state, key).state
+        assert (state.question and state.question.sentence) == said
+    assert state.typed == Field(Purpose.AFTER) and draft_of(state) is None
+    assert step(state, "y").state.typed == Field(Purpose.AFTER, "y", 1)
 
 
 def test_enter_that_came_at_once_is_forgotten_once_another_key_is_pressed() -> None:
@@ -599,11 +634,12 @@ def test_pasted_lines_where_print_is_edited_are_asked_about() -> None:
     assert state.question == Question(
         "The pasted text has 2 lines. Shall the first go on in this paragraph, and the other be"
         " new after it? If not, they are joined.",
-        ("The old", "newmoon."),
+        ("The old", "new moon."),
+        end=End.LINE,
     )
     joined = step(state, "n").state
-    assert joined.typed == Field(Purpose.EDIT, "The old newmoon.", 11)
-    assert step(state, "y").asked == TypeAll(Purpose.EDIT, ("The old", "newmoon."))
+    assert joined.typed == Field(Purpose.EDIT, "The old new moon.", 12)
+    assert step(state, "y").asked == TypeAll(Purpose.EDIT, ("The old", "new moon."))
     left = step(state, "escape")
     assert (left.asked, left.state) == (GiveUp(), state)
 
@@ -617,10 +653,100 @@ def test_a_pasted_line_goes_in_as_it_is() -> None:
     assert state.typed == Field(Purpose.EDIT, "The moon.", 4)
 
 
+AS_BLANK = "The end of the pasted line is a blank here. Enter ends what is typed."
+LEFT_OUT = "The end of the pasted line was left out. Enter ends what is typed."
+
+
+@pytest.mark.parametrize("ending", ["\n", "\r", "\r\n", "\n \n"])
+@pytest.mark.parametrize(
+    "before, text, after, wanted, said",
+    [
+        ("The ", "old", "moon.", "The oldmoon.", ""),
+        ("The ", "old|", "moon.", "The old moon.", AS_BLANK),
+        ("The ", "old |", "moon.", "The old moon.", LEFT_OUT),
+        ("The ", "old|", " moon.", "The old moon.", LEFT_OUT),
+        ("The", "|old", " moon.", "The old moon.", ""),
+        ("The ", "|old", " moon.", "The old moon.", ""),
+        ("", "|old|", "moon.", "old moon.", AS_BLANK),
+        ("The moon", "|rose.|", "", "The moon rose.", LEFT_OUT),
+        ("The", " ", "moon.", "The moon.", ""),
+    ],
+)
+def test_the_end_of_a_pasted_line_parts_it_from_what_stands_there(
+    ending: str, before: str, text: str, after: str, wanted: str, said: str
+) -> None:
+    for purpose in (Purpose.EDIT, Purpose.AFTER, Purpose.NOTE):
+        state = typed(purpose, before + after, len(before))
+        state = pasted(state, text.replace("|", ending)).state
+        assert (state.typed and state.typed.text, state.message) == (wanted, said)
+        assert state.typed and state.typed.back == after
+
+
+@pytest.mark.parametrize("ending", ["\n", "\r", "\r\n", "\n \n"])
+@pytest.mark.parametrize(
+    "before, text, after, wanted, typed_on",
+    [
+        ("The ", "old|new", "moon.", "The old/newmoon.", "The old/newsmoon."),
+        ("The ", "old|new|", "moon.", "The old/new moon.", "The old/new smoon."),
+        ("The ", "old|new|", " moon.", "The old/new moon.", "The old/new s moon."),
+        ("The ", "old|new |", "moon.", "The old/new moon.", "The old/new smoon."),
+        ("The", "|old|new", "", "The old/new", "The old/news"),
+        ("The ", " old|new|", "", "The old/new", "The old/new s"),
+        ("", "|old||new|", "moon.", "old/new moon.", "old/new smoon."),
+    ],
+)
+def test_the_end_of_pasted_lines_parts_them_from_what_stands_there_or_is_typed_on(
+    ending: str, before: str, text: str, after: str, wanted: str, typed_on: str
+) -> None:
+    state = typed(Purpose.EDIT, before + after, len(before))
+    asked = pasted(state, text.replace("|", ending)).state
+    assert asked.question and asked.question.lines == tuple(wanted.split("/"))
+    joined = step(asked, "n").state.typed
+    assert joined and (joined.text, joined.back) == (wanted.replace("/", " "), after)
+    lines = tuple(typed_on.split("/"))
+    for more in ("s", " s") if text[-1] in "| " else ("s",):
+        on = step(asked, more[0]).state
+        on = step(on, more[1]).state if more[1:] else on
+        assert on.question and on.question.lines == lines
+        on = pasted(asked, more).state
+        assert on.question and on.question.lines == lines
+    on = pasted(asked, f"{ending}far{ending}").state
+    front = wanted.removesuffix(after).rstrip()
+    assert on.question and on.question.lines == (*front.split("/"), "far", after)
+    assert on.joined and on.joined.text.split() == (
+        f"{front.replace('/', ' ')} far {after}".split()
+    )
+    assert "  " not in on.joined.text
+
+
+def test_enter_before_keys_that_came_at_once_ends_what_was_typed() -> None:
+    lines = ("It rose.", "It set.")
+    asked = pasted(typed(Purpose.AFTER, lines[0]), f"\n{lines[1]}", True).state
+    assert asked.question == Question(
+        "What is typed has 2 lines. Are they 2 paragraphs?", lines
+    )
+    # nothing stands before it in an empty paragraph
+    state = pasted(typed(Purpose.AFTER), f"\n{lines[1]}", True).state
+    assert state.typed == Field(Purpose.AFTER, lines[1], 7)
+    # and a word that hands end by Enter is one
+    state = pasted(typed(Purpose.EDIT, "The mon.", 5), "oooo\n", True).state
+    assert state.typed and state.typed.text == "The mooooon."
+
+
 def test_pasted_lines_at_a_prompt_are_joined_which_is_said() -> None:
     state = pasted(typed(Purpose.NOTE, "ab", 1), "x\ny").state
     assert state.typed == Field(Purpose.NOTE, "ax yb", 4)
     assert state.message == "The 2 pasted lines were joined."
+    state = pasted(typed(Purpose.NOTE, "ab", 1), "\nx\ny\n").state
+    assert state.typed == Field(Purpose.NOTE, "a x y b", 6)
+    state = pasted(typed(Purpose.WORDS), "moon\nn\n", True).state
+    assert state.typed == Field(Purpose.WORDS, "moon n", 6)
+    assert state.message == "The 2 lines that came at once were joined."
+    state = pasted(typed(Purpose.WORDS), "moon\n", True).state
+    assert state.typed == Field(Purpose.WORDS, "moon", 4)
+    assert state.message == (
+        "Enter came with other keys at once, and ended nothing. Press it to end this."
+    )
 
 
 def test_pasted_lines_with_a_control_character_are_not_typed() -> None:

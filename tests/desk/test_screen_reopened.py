@@ -105,6 +105,10 @@ def test_what_is_typed_on_after_enter_failed_is_another_line(
         "It rose.",
         "It set.",
     )
+    # no hands pasted them
+    assert sat.state.question.sentence == (
+        "What is typed has 2 lines. Are they 2 paragraphs?"
+    )
     sat.press("y")
     assert sat.state.typed and sat.state.typed.text == ""
     assert prints(sat)[1:3] == ["It rose.", "It set."]

@@ -68,7 +68,7 @@ def test_pasted_lines_stay_one_line_at_a_prompt_and_nothing_is_sent(
     if key in ("o", "O", "enter"):
         sat.press("n")
     assert sat.state.typed and before
-    assert sat.state.typed.text == "one two three" + before.text
+    assert sat.state.typed.text == f"one two three {before.text}".rstrip()
     assert (sat.state.version, sat.state.away) == (7, None)
 
 

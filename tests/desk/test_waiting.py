@@ -11,6 +11,8 @@ import pytest
 from braildesk.desk.drafts import Drafts
 
 from scribe.cli import run_words
+from scribe.screen.actions import ImportFrom
+from scribe.screen.background import done_in_background
 from scribe.words.console import Console
 from terminal import WAIT_SECONDS, Open, Terminal, once_free
 
@@ -55,6 +57,18 @@ def test_an_import_says_that_it_waits(slow: Path) -> None:
     assert errors.getvalue().splitlines().count(WAITING) == 1
 
 
+def test_what_is_said_of_an_import_beside_the_screen_is_no_more_that_it_waits(
+    slow: Path,
+) -> None:
+    text = slow.with_name("text.txt")
+    text.write_text("The sun\n")
+    heard: list[str] = []
+    wanted = ImportFrom(text, "end", "en")
+    done = done_in_background(slow, wanted, heard.append, lambda: None)
+    assert done.lines == ("1 paragraph typed, number 4, by the table en.",)
+    assert WAITING in heard
+
+
 def test_the_screen_says_that_it_waits_and_keeps_the_keys(moon: Path, at: Open) -> None:
     terminal = at(moon, 40, 12)
     terminal.wait("? shows the keys.")
@@ -72,6 +86,27 @@ def test_the_screen_says_that_it_waits_and_keeps_the_keys(moon: Path, at: Open) 
     os.kill(program, signal.SIGCONT)
     lines = terminal.wait("No, Twice a day the sea comes up.")
     assert WAITING not in " ".join(lines)
+
+
+def test_a_screen_that_is_made_smaller_says_that_it_waits_and_takes_escape_as_that_key(
+    moon: Path, at: Open
+) -> None:
+    terminal = at(moon)
+    terminal.wait("? shows the keys.")
+    terminal.keys("o", *"It rose.")
+    terminal.wait("It rose.")
+    terminal.settle()
+    program = terminal.program()
+    os.kill(program, signal.SIGSTOP)
+    # no key was read by which the terminal would be read to its end
+    terminal.resize(70, 20)
+    terminal.wait(WAITING)
+    terminal.send("\x1b")
+    # it comes to the other end of the terminal a moment later
+    time.sleep(0.2)
+    terminal.await_read()
+    os.kill(program, signal.SIGCONT)
+    terminal.wait("Given up. The book is as it was.")
 
 
 def test_a_signal_ends_the_screen_while_it_waits_and_what_is_typed_is_kept(
@@ -188,7 +223,7 @@ def test_what_is_typed_on_while_the_screen_waits_outlives_a_kill_as_other_paragr
     asked = " ".join(" ".join(again.wait("l leaves it for later.")).split())
     assert "“It rose. It stood. It set.”" in asked
     again.answer("y")
-    again.wait("The pasted text has 3 lines.")
+    again.wait("What is typed has 3 lines.")
     again.answer("y")
     again.wait("last kept: paragraph 6")
     again.keys("escape", "q")

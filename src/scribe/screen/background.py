@@ -13,7 +13,7 @@ from braildesk.desk.import_text import Import
 
 from scribe.screen.actions import ExportTo, ImportFrom, LeaveImport
 from scribe.screen.state import Question
-from scribe.words.console import Console, Heard
+from scribe.words.console import WAITING, Console, Heard
 from scribe.words.export import export_in_words
 from scribe.words.import_text import import_in_words, question as import_question
 from scribe.words.status import Interrupted, Stop, in_sentences
@@ -57,7 +57,9 @@ def done_in_background(
         pass
     what = "Export." if isinstance(action, ExportTo) else "Import."
     lines = (*shown.getvalue().splitlines(), *said.getvalue().splitlines())
-    return ActionResult(what, lines, kept, question)
+    # nothing is waited for any more
+    over = tuple(line for line in lines if line != WAITING)
+    return ActionResult(what, over, kept, question)
 
 
 def _imported(

@@ -101,7 +101,7 @@ from scribe.words.changes import not_given
 from scribe.words.deeds import Deed, kept
 from scribe.words.drafts import Unsent, came_last, not_kept, where_typed
 from scribe.words.paragraph import quoted
-from scribe.words.preview import Tables
+from scribe.words.preview import Preview, Tables
 from scribe.words.status import Interrupted, Stop, in_sentences, of_system
 
 _OPEN_AGAIN = "The book is open again."
@@ -322,6 +322,9 @@ class Desk:
         try:
             self._session.close()
             ending = done_in_background(self.path, action, report, self._check)
+            if ending.kept:
+                # also if the book can't be opened again
+                state = replace(state, kept=f"kept: {ending.kept}")
             self._open_further()
             before = state
             state = self._opened_again(state)
@@ -331,9 +334,7 @@ class Desk:
             return _closed(state, failed.reason, ending.lines)
         except OSError as failure:
             return _closed(state, of_system(failure), ending.lines)
-        if ending.kept:
-            state = replace(state, kept=f"kept: {ending.kept}")
-        elif len(state.book) > len(before.book):
+        if not ending.kept and len(state.book) > len(before.book):
             # an import that was cut short
             count = len(state.book) - len(before.book)
             what = "1 paragraph" if count == 1 else f"{count:,} paragraphs"
@@ -1002,6 +1003,18 @@ def preview_of(state: State, typed: Field) -> tuple[str, str, str]:
     return table or "", typed.text, typing_keys.print_of(state, typed)
 
 
+def with_preview(state: State, asked: State, preview: Preview) -> State:
+    """The state with the braille of what was typed when it was asked for, if that is typed still."""
+    before, now = asked.typed, state.typed
+    if before is None or now is None:
+        return state
+    was, there = (asked.version, asked.chosen), (state.version, state.chosen)
+    if (there, now.purpose) != (was, before.purpose):
+        # another text, under which it would be untrue
+        return state
+    return replace(state, preview=preview)
+
+
 def _is_gone_on_from(asked: Command[Any] | Action | None) -> bool:
     """Whether another new paragraph is typed after what a key asked for."""
     is_of_new = isinstance(asked, TypeAll) and asked.purpose.is_new
@@ -1019,7 +1032,8 @@ def _still_typed(state: State, is_sent: bool) -> State:
 def _with_end(state: State, typed: Field) -> State:
     """The state in which Enter ended what is still typed: hands that type on don't go on in it."""
     ended = replace(typed, place=len(typed.text))
-    said = _ENDED if typed.purpose.is_print else _TYPE_ON
+    is_line = typed.purpose.is_print and typed.text.strip()
+    said = _ENDED if is_line else _TYPE_ON
     return replace(state, typed=ended, ended=ended).saying_too(said)
 
 

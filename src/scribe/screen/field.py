@@ -1,6 +1,6 @@
 """A text that is being typed, and the place in it before which the next character goes."""
 
-from collections.abc import Callable
+from collections.abc import Callable, Iterable
 from dataclasses import dataclass, replace
 from enum import Enum, auto
 
@@ -50,9 +50,19 @@ class Field:
     #: What is said of it as long as it is typed, where nothing else is said.
     said: str = ""
 
+    @property
+    def front(self) -> str:
+        """What stands before its place."""
+        return self.text[: self.place]
+
+    @property
+    def back(self) -> str:
+        """What stands after its place."""
+        return self.text[self.place :]
+
     def inserted(self, text: str) -> "Field":
         """The field with a text at its place."""
-        whole = self.text[: self.place] + text + self.text[self.place :]
+        whole = self.front + text + self.back
         return replace(self, text=whole, place=self.place + len(text))
 
     def moved(self, key: str) -> "Field | None":
@@ -147,6 +157,21 @@ class Cut:
     field: Field
     text: str
     is_back: bool
+
+
+def blank_between(before: str, after: str) -> str:
+    """The blank by which two texts are parted, unless one of them has it there or is empty."""
+    is_parted = not before or before.endswith(" ") or after[:1] in ("", " ", "\n")
+    return "" if is_parted else " "
+
+
+def joined_by_blanks(lines: Iterable[str]) -> str:
+    """Lines as one text."""
+    parts, before = [], ""
+    for line in lines:
+        parts += [blank_between(before, line), line]
+        before = line or before
+    return "".join(parts)
 
 
 def _is_no_blank(character: str) -> bool:

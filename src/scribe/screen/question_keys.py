@@ -17,7 +17,7 @@ from scribe.screen.actions import (
 )
 from scribe.screen.field import Field, Purpose
 from scribe.screen.pasted_lines import about_lines, typed_on
-from scribe.screen.state import Question, State, Step
+from scribe.screen.state import End, Question, State, Step
 from scribe.screen.typing_keys import is_character, no_table, table_of_new, while_typing
 
 _NO_ANSWER = "That key is no answer to the question."
@@ -57,7 +57,7 @@ def _about_lines(state: State, typed: Field, question: Question, key: str) -> St
     if key in ("y", "n") and not question.is_typed_on:
         if key == "n":
             joined = asked.joined
-            if joined is not None and question.joint == " ":
+            if joined is not None and question.end is End.BLANK and not typed.back:
                 joined = joined.inserted(" ")
             return Step(replace(state, typed=joined))
         for line in question.lines:

@@ -25,7 +25,7 @@ from scribe.screen.actions import (
     TakeBack,
     TypeAll,
 )
-from scribe.screen.field import Cut, Field, Purpose
+from scribe.screen.field import Cut, Field, Purpose, joined_by_blanks
 from scribe.words.deeds import Deed, imported, together
 from scribe.words.preview import Preview
 
@@ -53,6 +53,17 @@ class Opening:
     open_marks: int
 
 
+class End(Enum):
+    """What the last of some lines ended in, which parts it from what comes after it."""
+
+    NOTHING = auto()
+    BLANK = auto()
+    #: The end of a line that was pasted: a blank, if anything comes after it.
+    LINE = auto()
+    #: Enter among keys: what is typed on is another line.
+    ENTER = auto()
+
+
 @dataclass(frozen=True)
 class Question:
     """What is asked before something is done: y is yes, n is no, and what else there is."""
@@ -61,8 +72,8 @@ class Question:
     lines: tuple[str, ...] = ()
     #: Whether the last of the lines is typed on, so that y and n are letters of it until Enter.
     is_typed_on: bool = False
-    #: What stands between the last of the lines and what is typed on: a blank, or an end of the line.
-    joint: str = ""
+    #: What the last of the lines ended in, until it is typed on.
+    end: End = End.NOTHING
     draft: Field | None = None
     #: A text that is too long for one paragraph, and may go on in a new one, in its two parts.
     parts: tuple[str, str] | None = None
@@ -246,8 +257,8 @@ class State:
         typed, question = self.typed, self.question
         if typed is None or question is None or not question.lines:
             return typed
-        text, after = " ".join(question.lines), len(typed.text) - typed.place
-        return replace(typed, text=text, place=len(text) - after)
+        text = joined_by_blanks(question.lines)
+        return replace(typed, text=text, place=len(text) - len(typed.back))
 
     @property
     def shown(self) -> Field | None:

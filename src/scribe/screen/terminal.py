@@ -38,7 +38,7 @@ from scribe.screen.arrivals import (
     is_text,
     text_of,
 )
-from scribe.screen.desk import Desk, preview_of
+from scribe.screen.desk import Desk, preview_of, with_preview
 from scribe.screen.drawing import Drawing, draw
 from scribe.screen.keyboard import Keyboard, Pasted, Stroke
 from scribe.screen.lines import CHOSEN, HEAD, HIGHLIGHTED, MARKED, PLAIN
@@ -333,11 +333,12 @@ class Screen:
         size = Size(max(10, found.columns), max(2, found.rows))
         if size == self.state.size:
             return
-        if self.state.away or self.state.is_lost:
-            self.state = replace(self.state, size=size)
-        else:
+        before = self.state
+        # what is said while the program doesn't answer has to be seen
+        self.state = replace(before, size=size)
+        if not (before.away or before.is_lost):
             with suppress(Interrupted):
-                self.state = self._desk.resized(self.state, size)
+                self.state = self._desk.resized(before, size)
 
     def _begin_work(self) -> None:
         """From here on keys wait, if they don't already."""
@@ -382,6 +383,9 @@ class Screen:
         """Takes in what came while the program didn't answer."""
         if self._unread:
             self._came(self._input.rest())
+            # what reads the terminal waits for no key with Escape that came meanwhile
+            loop = asyncio.get_running_loop()
+            loop.call_later(_ESCAPE_SECONDS, self._paused)
         if not self._is_told_to_end:
             self._desk.keep_unread(None)
 
@@ -572,8 +576,7 @@ class Screen:
             preview = await loop.run_in_executor(
                 None, self._desk.tables.preview, *words
             )
-            if self.state.typed is not None:
-                self.state = replace(self.state, preview=preview)
+            self.state = with_preview(self.state, asked, preview)
         self._translates = False
         self._look_ahead()
         self._app.invalidate()

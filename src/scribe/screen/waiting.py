@@ -19,7 +19,7 @@ from scribe.screen.state import (
     draft_of_pasted,
     field_of,
 )
-from scribe.words.drafts import Unsent, changed_since, what_for
+from scribe.words.drafts import Unsent, changed_since, what_for, without_paragraph
 from scribe.words.paragraph import quoted
 
 _PASTED = (
@@ -50,15 +50,15 @@ def with_text(
 
 
 def _given_up(unsent: Unsent, state: State) -> State:
-    """Gives up the lines that were pasted, what is typed, or the text that waits."""
+    """Gives up lines that are asked about, what is typed, or the text that waits."""
     asked = state.question
     if asked is not None and asked.draft is not None:
         state = replace(state, typed=asked.draft, question=None)
     draft = draft_of(state)
     fault = unsent.put_by(draft) if draft else ""
     if asked is not None and asked.lines:
-        how = fault or "Once nothing is typed any more, U brings it back."
-        said = f"The pasted text isn't in the book. {how}"
+        how = fault or "Once nothing is typed any more, U brings them back."
+        said = f"These lines aren't in the book. {how}"
         return replace(state, question=None).saying(said)
     said = "Given up. The book is as it was."
     if draft is not None:
@@ -104,7 +104,7 @@ def asked_about(
 ) -> State:
     """Asks whether a text that waits is taken up, at its paragraph."""
     places = [n for n, each in enumerate(state.book) if each.id == saved.paragraph]
-    changed = ""
+    changed = "" if places else without_paragraph(saved)
     if places:
         state = state.at(places[0])
         now = session.print_of(state.book[places[0]].id)
