@@ -14,9 +14,10 @@ No module uses one that is named after it here. In ``braildesk/text``, ``limits`
 ``characters`` names characters and shows those that nobody sees; ``sequences`` parts a text into
 combining sequences, ``spans`` finds words in it, ``cells`` reads and writes cells, ``wrapping``
 makes lines of a width, and ``excerpt`` takes a few words of a text. In ``braildesk/protocol``,
-``values`` are dataclasses, ``codes`` are the codes of refusals, and ``fields`` writes and reads
-each kind of field that a request has; ``replies`` reads replies, ``answers`` makes values of these,
-and ``requests`` is the table of all requests; ``sentences`` has one sentence for each code,
+``value`` is what dataclasses that never change have in common, ``values`` are some of these,
+``codes`` are the codes of refusals, and ``fields`` writes and reads each kind of field that a
+request has; ``replies`` reads replies, ``answers`` makes values of these, and ``requests`` is the
+table of all requests; ``sentences`` has one sentence for each code,
 ``asked`` lists what may be refused besides requests, and says where a book's file and its log lie,
 and ``wording`` fills in the sentences. Beside these folders, ``version`` reads the version, and
 ``refusals`` has the exceptions. ``named_files`` reads files that a person names, and nothing that
@@ -27,8 +28,8 @@ tries again while it is in use. ``workshop`` makes files whole before they get t
 reads tables and versions of books, and ``pipe`` moves bytes to and from a session of the program.
 ``watch`` tells that another program had a file open for writing, ``openfile`` sees to the file of a
 session, ``beginning`` starts its program, ``rescue`` says what became of the file and saves the book
-from it, ``asking`` has a method for each request, and ``session`` is the session. ``making`` makes new books and copies, and ``snapshot``
-copies a book that another program has open.
+from it, ``asking`` has a method for each request, and ``session`` is the session. ``making`` makes
+new books and copies, and ``snapshot`` copies a book that another program has open.
 """
 
 from importlib import import_module

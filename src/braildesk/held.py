@@ -3,17 +3,23 @@
 import os
 import stat
 from collections.abc import Iterator
-from contextlib import contextmanager
+from contextlib import contextmanager, suppress
 from pathlib import Path
 from typing import BinaryIO
 
 from braildesk import opening
-from braildesk.opening import has_journal, has_work, is_log, take_alone, take_shared
+from braildesk.opening import (
+    has_journal,
+    has_work,
+    take_alone,
+    take_shared,
+    why_no_log,
+)
 from braildesk.protocol.asked import BookFile, log_path, real_path
 from braildesk.protocol.sentences import Why
 from braildesk.refusals import cannot_open
 from braildesk.text import limits
-from braildesk.workshop import copy_bytes, create
+from braildesk.workshop import copy_bytes, create, give_access, mode_of
 
 
 @contextmanager
@@ -28,8 +34,8 @@ def held(book: BookFile, flags: int = os.O_RDONLY) -> Iterator[BinaryIO]:
         if not is_at_path(book, file):
             # another one was put there in this moment
             raise cannot_open(book, Why.IN_USE)
-        if not is_log(log_path(book.path)):
-            raise cannot_open(book, Why.NO_LOG)
+        if no_log := why_no_log(log_path(book.path)):
+            raise cannot_open(book, no_log)
         if has_journal(book.path):
             raise cannot_open(book, Why.JOURNAL)
         yield file
@@ -58,6 +64,55 @@ def open_file(book: BookFile, flags: int = os.O_RDONLY) -> BinaryIO:
         file.close()
         raise cannot_open(book, Why.TOO_LARGE_FOR_BOOK)
     return file
+
+
+def fit_log(book: BookFile) -> None:
+    """Gives a log of one's own the mode and the group that its book has by now.
+
+    Else who may only read the book could write there what the next session would take into it. What
+    a list of access gives to single users stays as it is.
+    """
+    path, log_name = Path(real_path(book.path)), Path(log_path(book.path)).name
+    with suppress(OSError, ValueError), _folder(path.parent) as folder:
+        # both lie in one folder, whatever is put in its place meanwhile
+        with _alone(folder, path.name) as file, _alone(folder, log_name) as log:
+            found, like = os.fstat(log.fileno()), os.fstat(file.fileno())
+            is_own = os.geteuid() in (0, found.st_uid)
+            has_list = mode_of(file.fileno(), like) != like.st_mode & 0o777
+            if is_own and not has_list and _access(found) != _access(like):
+                give_access(log.fileno(), file.fileno())
+
+
+def _access(found: os.stat_result) -> tuple[int, int]:
+    return found.st_mode & 0o777, found.st_gid
+
+
+@contextmanager
+def _folder(path: Path) -> Iterator[int]:
+    folder = os.open(path, os.O_PATH | os.O_DIRECTORY | os.O_CLOEXEC)
+    try:
+        yield folder
+    finally:
+        os.close(folder)
+
+
+def _alone(folder: int, name: str) -> BinaryIO:
+    """A regular file with one name, OSError for anything else."""
+    flags = os.O_RDONLY | os.O_NOFOLLOW | os.O_NONBLOCK | os.O_CLOEXEC
+    # a device isn't even opened; and what was opened is looked at again, since names change
+    _refuse_other(os.stat(name, dir_fd=folder, follow_symlinks=False))
+    file = open(os.open(name, flags, dir_fd=folder), "rb")
+    try:
+        _refuse_other(os.fstat(file.fileno()))
+    except OSError:
+        file.close()
+        raise
+    return file
+
+
+def _refuse_other(found: os.stat_result) -> None:
+    if not stat.S_ISREG(found.st_mode) or found.st_nlink != 1:
+        raise OSError("no file of its own")
 
 
 def is_at_path(book: BookFile, file: BinaryIO) -> bool:

@@ -44,9 +44,8 @@ from braildesk.workshop import (
 )
 
 _ROOM = "Let TMPDIR name a folder with room."
-_FULL = (errno.ENOSPC, errno.EDQUOT)
 #: Why a copy can't be opened where it is, whatever is so of the book.
-_OF_PLACE = (Why.NO_ROOM, Why.READ_ONLY, Why.DENIED)
+_OF_PLACE = (Why.NO_ROOM, Why.OVER_QUOTA, Why.READ_ONLY, Why.DENIED)
 #: What may be of a file whose folder isn't on the disk yet.
 _GONE, _OLDER = "it may be gone", "the older file may be there"
 
@@ -103,7 +102,7 @@ def _new_book(
                 f"“{asked.path}”, or the path of its log, which ends in -wal besides, is too long."
                 " Nothing was made. Take a shorter one."
             ) from None
-        why = Why.NO_ROOM if error.errno in _FULL else opening.why(asked)
+        why = opening.OF_ROOM.get(error.errno or 0) or opening.why(asked)
         raise cannot_open(asked, why) from None
     programs.make_book(asked.path, program)
     _carry_out(asked.path, program, holding)
@@ -145,7 +144,7 @@ def _make(
         except FileExistsError:
             raise
         except (Failed, OSError) as failed:
-            if isinstance(failed, OSError) and failed.errno in _FULL:
+            if isinstance(failed, OSError) and failed.errno in opening.OF_ROOM:
                 raise
             raise Failed(
                 f"The new book “{asked.path}” could not be written, and there is none:"
@@ -342,7 +341,7 @@ def _not_written(named: str, why: str) -> Failed:
 def _finish(source: BinaryIO, made: Path, copied: os.stat_result) -> None:
     """Gives a whole copy what the book's file has beside its contents."""
     with open_made(made, copied) as file:
-        give_access(file.fileno(), os.fstat(source.fileno()))
+        give_access(file.fileno(), source.fileno())
         os.fsync(file.fileno())
 
 

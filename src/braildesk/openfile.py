@@ -276,7 +276,7 @@ class OpenFile:
                 with create(made) as written:
                     copy_bytes(self._descriptor, written.fileno())
                     os.fsync(written.fileno())
-                    give_access(written.fileno(), os.fstat(self._descriptor))
+                    give_access(written.fileno(), self._descriptor)
                     saved = os.fstat(written.fileno())
                 if _version(made, program) < version:
                     raise Failed("The program did not write all of it to its file.")
@@ -292,7 +292,7 @@ class OpenFile:
             with made_beside(self.path) as made:
                 with create(made) as written:
                     written.write(text.encode())
-                    give_access(written.fileno(), os.fstat(self._descriptor))
+                    give_access(written.fileno(), self._descriptor)
                 return _put_beside(made, self.path, ".txt")
         except OSError as error:
             raise Failed(f"{error.strerror or error}.") from error

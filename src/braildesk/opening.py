@@ -55,6 +55,10 @@ def is_file_or_free(path: str) -> bool:
     return stat.S_ISREG(mode) or stat.S_ISDIR(mode)
 
 
+#: What a failure of the system says of the room on a disk.
+OF_ROOM: Mapping[int, Why] = MappingProxyType(
+    {errno.ENOSPC: Why.NO_ROOM, errno.EDQUOT: Why.OVER_QUOTA}
+)
 #: What a disk may be the cause of.
 _OF_DISK = (Why.UNKNOWN, Why.DENIED, Why.LOG_DENIED)
 
@@ -69,13 +73,27 @@ def why(asked: AskedOfFile) -> Why:
 
 def _why_by_disk(path: str) -> Why | None:
     """What of the disk keeps a book from being written, if that is seen."""
+    folder = os.path.dirname(os.path.realpath(path))
     try:
-        disk = os.statvfs(os.path.dirname(os.path.realpath(path)))
+        disk = os.statvfs(folder)
     except (OSError, ValueError):
         return None
     if disk.f_flag & os.ST_RDONLY:
         return Why.READ_ONLY
-    return Why.NO_ROOM if little_room(path) == 0 else None
+    return Why.NO_ROOM if little_room(path) == 0 else _why_no_file_more(folder)
+
+
+def _why_no_file_more(folder: str) -> Why | None:
+    """What of the disk keeps a log from being made in a folder; a file that never has a name is tried."""
+    try:
+        file = os.open(folder, os.O_TMPFILE | os.O_WRONLY | os.O_CLOEXEC, 0o600)
+        try:
+            os.write(file, MAGIC)
+        finally:
+            os.close(file)
+    except OSError as error:
+        return OF_ROOM.get(error.errno or 0)
+    return None
 
 
 def little_room(path: str) -> int | None:
@@ -129,8 +147,8 @@ def _why_regular(asked: AskedOfFile) -> Why:
         if is_used(file):
             return Why.IN_USE
         found = why_contents(file)
-    if not is_log(log_path(asked.path)):
-        return Why.NO_LOG
+    if no_log := why_no_log(log_path(asked.path)):
+        return no_log
     if has_journal(asked.path):
         return Why.JOURNAL
     return _why_denied(asked.path) or found if found is Why.UNKNOWN else found
@@ -183,6 +201,16 @@ def is_log(log: str) -> bool:
     except FileNotFoundError:
         return True
     return stat.S_ISREG(found.st_mode) and found.st_nlink == 1
+
+
+def why_no_log(log: str) -> Why | None:
+    """Why nothing can be looked for in a log, if that is so."""
+    try:
+        return None if is_log(log) else Why.NO_LOG
+    except OSError as error:
+        if error.errno == errno.ENAMETOOLONG:
+            return Why.LONG_NAME
+        raise
 
 
 def has_work(log: str) -> bool:

@@ -28,7 +28,7 @@ _PATIENCE = 2.0
 _MANY, _PAUSE = 64, 0.001
 
 
-@dataclass(frozen=True, eq=False)
+@dataclass(frozen=True, eq=False, repr=False)
 class Ending:
     """How the program of a session ended."""
 

@@ -12,7 +12,7 @@ from subprocess import DEVNULL, PIPE, Popen
 from typing import TYPE_CHECKING
 
 from braildesk import opening
-from braildesk.held import copy_held, held
+from braildesk.held import copy_held, fit_log, held
 from braildesk.named_files import read_file
 from braildesk.opening import fault_in, goes_on, has_work, waited
 from braildesk.protocol.asked import (
@@ -51,6 +51,8 @@ _PAUSE = 0.2
 #: What the program isn't asked of at all.
 _NOT_A_BOOK = (Why.COMPUTED, Why.TOO_LONG)
 _CODE = re.compile(r"(?:braildesk: )?no ([0-9 ]+)")
+#: What it answers of a whole book.
+_CHECKED = re.compile(rb"ok ([0-9]+)\n")
 
 
 class NoProgram(DeskError):
@@ -115,7 +117,9 @@ def check(
     answer = waited(
         lambda: _run(program, words, asked, while_waiting=while_waiting), timeout
     )
-    return int(answer.removeprefix(b"ok "))
+    if not (found := _CHECKED.fullmatch(answer)):
+        raise strange(program, answer)
+    return int(found[1])
 
 
 def export(
@@ -198,7 +202,10 @@ def translate_beside(
         output = _run(program, words, asked, sent, (), beside, while_waiting)
     else:
         output = _by_text(program, asked, sent, beside, while_waiting)
-    answers = iter(output.decode().split("\n"))
+    lines = output.decode(errors="replace").split("\n")
+    if len(lines) != 1 + sum(isinstance(line, PrintLine) for line in judged):
+        raise strange(program, output)
+    answers = iter(lines)
     return [_answered(line, answers) for line in judged]
 
 
@@ -212,6 +219,16 @@ def cannot_run(program: str, error: OSError) -> NoProgram:
     return NoProgram(f"The program “{program}” can't be run: {error.strerror}.")
 
 
+def strange(program: StrPath | None, answer: bytes) -> Failed:
+    """What is said of a program that answers as braildesk of this version doesn't."""
+    found, line = find(program), answer[:80].decode(errors="replace").partition("\n")[0]
+    return Failed(
+        f"The program “{found}” answers as braildesk doesn't: “{line}”. It may be another"
+        " one of that name, or of another version. Let BRAILDESK name the one that belongs to this"
+        " scribe."
+    )
+
+
 def judge(asked: AskedOfFile, program: str) -> None:
     """Refuses a book for what is seen of its files, before the program opens and changes them.
 
@@ -220,6 +237,7 @@ def judge(asked: AskedOfFile, program: str) -> None:
     if isinstance(asked, TableFile):
         return
     _judge_file(asked)
+    fit_log(BookFile(asked.path))
     try:
         fault = _fault_of(asked.path, program)
     except (OSError, ValueError, Refused):

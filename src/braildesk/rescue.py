@@ -19,7 +19,15 @@ NOT_ALL_THERE = (
 )
 #: Why a copy of a book's files isn't opened, whatever is in them.
 _UNTOLD = frozenset(
-    {Why.DENIED, Why.LOG_DENIED, Why.READ_ONLY, Why.NO_ROOM, Why.IN_USE, Why.UNKNOWN}
+    {
+        Why.DENIED,
+        Why.LOG_DENIED,
+        Why.READ_ONLY,
+        Why.NO_ROOM,
+        Why.OVER_QUOTA,
+        Why.IN_USE,
+        Why.UNKNOWN,
+    }
 )
 
 

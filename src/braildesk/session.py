@@ -30,7 +30,6 @@ from braildesk.protocol.values import Table
 from braildesk.refusals import (
     DeskError,
     Displaced,
-    Failed,
     Lost,
     Refused,
     SessionEnded,
@@ -248,7 +247,7 @@ class Session(Asking):
         while True:
             pipe, file = self._begin()
             try:
-                version = _first_version(pipe, self._book)
+                version = _first_version(pipe, self._book, self._program)
             except BaseException:
                 file.close()
                 raise
@@ -606,7 +605,7 @@ def session_beside(
         yield lambda: session_of(beginning, timeout)
 
 
-def _first_version(pipe: Pipe, book: BookFile) -> int:
+def _first_version(pipe: Pipe, book: BookFile, program: StrPath | None) -> int:
     """Waits for the first reply, which comes if the book was opened."""
     version = requests.Version()
     try:
@@ -615,7 +614,7 @@ def _first_version(pipe: Pipe, book: BookFile) -> int:
     except Unreadable as error:
         pipe.kill()
         pipe.close()
-        raise Failed(str(error)) from None
+        raise programs.strange(program, error.line) from None
     except BaseException:
         # by Ctrl-C, while the program looks at a file that may never end
         pipe.kill()

@@ -16,7 +16,7 @@ from pathlib import Path
 from typing import BinaryIO
 
 from braildesk.held import copy_held, is_at_path, open_file
-from braildesk.opening import is_log
+from braildesk.opening import why_no_log
 from braildesk.program import StrPath
 from braildesk.protocol.asked import AskedOfFile, BookFile, log_path
 from braildesk.protocol.sentences import Why
@@ -90,8 +90,8 @@ def _copy(book: BookFile, copied: Path) -> None:
 def _is_copied(book: BookFile, file: BinaryIO, copied: Path) -> bool:
     """Copies a file and its log, and says whether the log wasn't emptied nor the file replaced."""
     log = log_path(book.path)
-    if not is_log(log):
-        raise cannot_open(book, Why.NO_LOG)
+    if no_log := why_no_log(log):
+        raise cannot_open(book, no_log)
     try:
         before = _state(file, log)
     except PermissionError as error:
@@ -102,7 +102,7 @@ def _is_copied(book: BookFile, file: BinaryIO, copied: Path) -> bool:
         return False
     # so that a copy of the copy has the mode and owner of the book
     with open_made(copied, copy_held(file, log, copied)) as made:
-        give_access(made.fileno(), os.fstat(file.fileno()))
+        give_access(made.fileno(), file.fileno())
     return _state(file, log) == before and is_at_path(book, file)
 
 

@@ -9,11 +9,14 @@ import errno
 import fcntl
 import os
 import stat
+import struct
 from collections.abc import Iterator
 from contextlib import contextmanager, suppress
 from dataclasses import dataclass
 from pathlib import Path
 from typing import BinaryIO, Self
+
+from braildesk.protocol.value import Value
 
 _PREFIX = ".braildesk-"
 #: The file that is made, and what is put beside it by the program and by SQLite when it reads what
@@ -28,6 +31,10 @@ _NOT_KNOWN = (errno.EINVAL, errno.ENOSYS, errno.EOPNOTSUPP)
 #: What is said where a file system has no hard links.
 _NO_LINKS = (errno.EPERM, *_NOT_KNOWN)
 _CHUNK = 1 << 20
+#: Where a file system has the list of who may do what with a file, the bytes before its entries, an
+#: entry (whom it is about, what that one may do, and a number), and what says that it is the group.
+_ACL, _ACL_FRONT, _ACL_ENTRY = "system.posix_acl_access", 4, struct.Struct("<HHI")
+_OF_GROUP = 0x04
 _FOLDER = os.O_PATH | os.O_DIRECTORY | os.O_NOFOLLOW | os.O_CLOEXEC
 
 
@@ -46,8 +53,8 @@ class MayNotLast(OSError):
     """A file has its new bytes, and whether its name outlasts a loss of power isn't known."""
 
 
-@dataclass(frozen=True, slots=True)
-class Place:
+@dataclass(frozen=True, slots=True, eq=False, repr=False)
+class Place(Value):
     """A name in a folder that is held open: what is put in place of the folder leads nowhere else."""
 
     folder: int
@@ -176,20 +183,72 @@ def put_over(made: Path, target: Place) -> None:
     _sync_folder(target)
 
 
-def give_access(file: int, like: os.stat_result) -> None:
+def give_access(file: int, like: int) -> None:
     """Gives a file the mode of another, and its group and owner if this process may.
 
-    A group that isn't that of the other file gets no more than anybody.
+    A group that isn't that of the other file gets no more than anybody. If the folder has given the
+    file a list of who may do what with it (ACL), those on that list may do as much with it as with
+    the other file.
     """
-    mode = like.st_mode & 0o777
+    found = os.fstat(like)
+    mode = mode_of(like, found)
     try:
-        os.fchown(file, -1, like.st_gid)
+        os.fchown(file, -1, found.st_gid)
     except OSError:
         mode &= ~stat.S_IRWXG | (mode & stat.S_IRWXO) << 3
     with suppress(OSError):
-        os.fchown(file, like.st_uid, -1)
+        os.fchown(file, found.st_uid, -1)
     with suppress(OSError):
+        if limit_group(file, mode):
+            mode |= found.st_mode & stat.S_IRWXG
         os.fchmod(file, mode)
+
+
+def limit_group(file: int, mode: int) -> bool:
+    """Lets the group itself do no more with a file that has a list of access than a mode says.
+
+    Whether it has one: the mode of such a file says what anybody on the list may do at most.
+    """
+    try:
+        listed = bytearray(os.getxattr(file, _ACL))
+    except OSError:
+        return False
+    for place in range(_ACL_FRONT, _end_of(listed), _ACL_ENTRY.size):
+        tag, may, whom = _ACL_ENTRY.unpack_from(listed, place)
+        if tag == _OF_GROUP:
+            _ACL_ENTRY.pack_into(listed, place, tag, may & mode >> 3, whom)
+    os.setxattr(file, _ACL, listed)
+    return True
+
+
+def _end_of(listed: bytes | bytearray) -> int:
+    """Where the last whole entry of a list of access ends: somebody's own file system may say any bytes."""
+    return max(len(listed) - (len(listed) - _ACL_FRONT) % _ACL_ENTRY.size, _ACL_FRONT)
+
+
+def gives_lists(folder: int) -> bool:
+    """Whether a folder gives a list of access to each file that is made in it."""
+    try:
+        return bool(os.getxattr(folder, "system.posix_acl_default"))
+    except OSError:
+        return False
+
+
+def mode_of(file: int | Path, found: os.stat_result) -> int:
+    """The mode of a file, with what its group itself may do.
+
+    If the file has a list of who may do what with it (ACL), the system shows in the place of the
+    group what anybody on that list may do at most.
+    """
+    mode = found.st_mode & 0o777
+    try:
+        listed = os.getxattr(file, _ACL)
+    except OSError:
+        return mode
+    for tag, may, _ in _ACL_ENTRY.iter_unpack(listed[_ACL_FRONT : _end_of(listed)]):
+        if tag == _OF_GROUP:
+            mode &= ~stat.S_IRWXG | may << 3
+    return mode
 
 
 def copy_bytes(source: int, target: int) -> None:

@@ -6,7 +6,24 @@ standard output, sentences go to standard error. Everything done to a book is do
 through the client `braildesk`, which knows nothing of these tools.
 """
 
+import _signal  # type: ignore[import]
 import sys
+
+
+def left_to_system() -> None:
+    """Has Ctrl-C end the process as the system does, until scribe ends in its own way.
+
+    What Python does by itself is a traceback. What this needs is in Python itself, so that no import
+    comes before it.
+    """
+    if _signal.getsignal(_signal.SIGINT) is _signal.default_int_handler:
+        _signal.signal(_signal.SIGINT, _signal.SIG_DFL)
+
+
+# `python3 -m scribe`, or the script of that name, and no program that only imports this
+if sys.argv[:1] == ["-m"] or sys.argv and sys.argv[0].endswith("/scribe"):
+    left_to_system()
+
 from importlib import import_module
 from types import ModuleType
 from typing import Any

@@ -10,6 +10,10 @@ program=$(realpath "${PROGRAM:-build/braildesk}")
 tests/needs.sh python black mypy pyflakes pytest hypothesis pexpect prompt_toolkit pyte setuptools wheel pip louis pandoc PyQt6
 python=${PYTHON:-$(tests/python.sh)}
 export BRAILDESK=$program PYTHONPATH=$PWD/src
+# what the tests start by its first line is run by the same Python, and by no script that looks for one
+PATH=$(dirname "$(command -v "$python")"):$PATH
+# modules and tests are compiled once for all processes and runs, also where a shell has Python keep nothing
+unset PYTHONDONTWRITEBYTECODE
 files=(src tests/desk sample/client.py bench/desk/desk.py)
 "$python" -m black --check --quiet "${files[@]}" || {
     "$python" -m black --check "${files[@]}" || true

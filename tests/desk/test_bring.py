@@ -1,5 +1,6 @@
 """scribe bring: tables of the installed liblouis, and small ones, brought over by the real program."""
 
+import os
 import re
 from collections.abc import Mapping
 from concurrent.futures import ThreadPoolExecutor
@@ -199,6 +200,12 @@ def test_a_table_replaces_one_that_was_brought_and_no_other_file_unless_that_is_
         " --overwrite replaces it."
     )
     assert (tmp_path / "out.utb").read_text() == "# My own table.\nletter a 1\n"
+    os.mkfifo(tmp_path / "pipe.utb")
+    assert refused(tmp_path, "small.utb", "pipe.utb") == (
+        "pipe.utb is a pipe, so it was left as it is; --overwrite replaces it."
+    )
+    (tmp_path / "empty.utb").touch()
+    assert scribe("bring", "small.utb", "empty.utb", folder=tmp_path).status == 0
     for words in ("small.utb out.utb --overwrite", "small.utb out.utb"):
         ran = scribe("bring", *words.split(), folder=tmp_path)
         assert (ran.status, ran.shown) == (0, "")

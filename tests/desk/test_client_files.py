@@ -6,6 +6,7 @@ import shutil
 import signal
 import sqlite3
 import stat
+import struct
 import subprocess
 import sys
 import tempfile
@@ -35,13 +36,19 @@ from braildesk import (
     requests,
     workshop,
 )
+from braildesk.desk.whole_file import Access, write_whole
 from braildesk.files import contents, read_version
+from braildesk.held import fit_log
 from braildesk.protocol.asked import BookFile
 from braildesk.refusals import cannot_open
+from braildesk.snapshot import snapshot
+from braildesk.workshop import mode_of
 
 from strangers import NEEDS_ROOT, as_stranger
 
 ROOT = Path(__file__).parents[2]
+#: The number of an entry that names no user and no group.
+NOBODY = 2**32 - 1
 
 
 def names(folder: Path) -> set[str]:
@@ -651,6 +658,35 @@ def test_a_new_book_that_finds_no_room_says_so_though_there_is_some_by_then(
     assert names(tmp_path) == set()
 
 
+@pytest.mark.parametrize(
+    "number, why", [(errno.ENOSPC, Why.NO_ROOM), (errno.EDQUOT, Why.OVER_QUOTA)]
+)
+def test_a_book_beside_which_its_disk_takes_no_file_more_says_so(
+    book: Path, monkeypatch: pytest.MonkeyPatch, number: int, why: Why
+) -> None:
+    opened = os.open
+
+    def full(path: str, flags: int, *more: int, **named: int) -> int:
+        if flags & os.O_TMPFILE == os.O_TMPFILE:
+            raise OSError(number, os.strerror(number))
+        return opened(path, flags, *more, **named)
+
+    monkeypatch.setattr(os, "open", full)
+    assert opening.why(BookFile(str(book))) is why
+
+
+def test_a_book_whose_log_would_have_too_long_a_name_says_so(
+    book: Path, tmp_path: Path
+) -> None:
+    long = book.rename(tmp_path / ("m" * 253))
+    assert opening.why(BookFile(str(long))) is Why.LONG_NAME
+    with pytest.raises(CannotOpen) as copied:
+        braildesk.copy(long, tmp_path / "copy")
+    with pytest.raises(CannotOpen) as looked_at, snapshot(long):
+        pass
+    assert copied.value.why is looked_at.value.why is Why.LONG_NAME
+
+
 @pytest.mark.parametrize("number", [errno.EIO, errno.ESTALE])
 def test_a_new_book_that_its_disk_fails_to_keep_says_so(
     tmp_path: Path, monkeypatch: pytest.MonkeyPatch, number: int
@@ -851,6 +887,93 @@ def test_no_book_is_made_beside_what_keeps_it_from_being_opened(
             attempt()
         assert caught.value.why is why
     assert names(tmp_path) == {book.name, f"made{ending}"}
+
+
+def test_the_log_has_the_mode_that_the_book_has_by_now(book: Path) -> None:
+    book.chmod(0o664)
+    Session(book).close()
+    log = book.with_name(f"{book.name}-wal")
+    for mode in (0o640, 0o660):
+        book.chmod(mode)
+        Session(book).close()
+        assert stat.S_IMODE(log.stat().st_mode) == mode
+
+
+def test_no_log_elsewhere_gets_a_mode_where_the_folder_of_a_book_is_exchanged(
+    book: Path, tmp_path: Path, monkeypatch: pytest.MonkeyPatch
+) -> None:
+    shared, own, away = (tmp_path / name for name in ("shared", "own", "away"))
+    for folder in (shared, own):
+        folder.mkdir()
+        for name in ("moon", "moon-wal"):
+            (folder / name).write_bytes(b"")
+            (folder / name).chmod(0o666 if folder == shared else 0o600)
+    whole_open = os.open
+
+    def open_and_exchange(*asked: Any, **more: Any) -> int:
+        opened = whole_open(*asked, **more)
+        if str(asked[0]).endswith("moon"):
+            shared.rename(away)
+            own.rename(shared)
+        return opened
+
+    monkeypatch.setattr(os, "open", open_and_exchange)
+    fit_log(BookFile(str(shared / "moon")))
+    monkeypatch.undo()
+    assert away.exists()
+    assert stat.S_IMODE((shared / "moon-wal").stat().st_mode) == 0o600
+
+
+@pytest.mark.parametrize(
+    "listed", [b"", b"\2", b"\2\0\0\0\4", b"\2\0\0\0" + b"\4" * 11]
+)
+def test_a_list_of_access_that_is_cut_off_is_read_as_far_as_it_goes(
+    book: Path, monkeypatch: pytest.MonkeyPatch, listed: bytes
+) -> None:
+    book.chmod(0o640)
+    monkeypatch.setattr(os, "getxattr", lambda *asked: listed)
+    assert mode_of(book, book.stat()) == 0o640
+
+
+def test_what_is_made_of_a_book_with_a_list_of_access_gives_its_group_no_more(
+    book: Path, tmp_path: Path
+) -> None:
+    # its owner and another user may read and write it, and its group may do nothing
+    listed = [(1, 6, NOBODY), (2, 6, 65_534), (4, 0, NOBODY), (16, 6, NOBODY)]
+    entries = [struct.pack("<HHI", *each) for each in (*listed, (32, 0, NOBODY))]
+    try:
+        names = b"".join([struct.pack("<I", 2), *entries])
+        os.setxattr(book, "system.posix_acl_access", names)
+    except OSError:
+        pytest.skip("the file system keeps no such lists")
+    assert stat.S_IMODE(book.stat().st_mode) == 0o660
+    braildesk.copy(book, tmp_path / "copy")
+    assert stat.S_IMODE((tmp_path / "copy").stat().st_mode) == 0o600
+    assert Access.of(book).mode == 0o600
+
+
+def test_those_to_whom_a_folder_gives_access_by_a_list_have_it_to_what_is_made_there(
+    book: Path, tmp_path: Path
+) -> None:
+    def packed(*listed: tuple[int, int, int]) -> bytes:
+        entries = [struct.pack("<HHI", *each) for each in listed]
+        return b"".join([struct.pack("<I", 2), *entries])
+
+    # another user may read and write, and the group may read what is made, but not the book
+    others = (2, 6, 65_534), (16, 6, NOBODY), (32, 0, NOBODY)
+    of_book = packed((1, 6, NOBODY), others[0], (4, 0, NOBODY), *others[1:])
+    folder = tmp_path / "folder"
+    folder.mkdir()
+    try:
+        os.setxattr(book, "system.posix_acl_access", of_book)
+        of_folder = packed((1, 6, NOBODY), others[0], (4, 4, NOBODY), *others[1:])
+        os.setxattr(folder, "system.posix_acl_default", of_folder)
+    except OSError:
+        pytest.skip("the file system keeps no such lists")
+    braildesk.copy(book, folder / "copy")
+    write_whole(folder / "pages", b"pages", Access.of(book))
+    for made in folder.iterdir():
+        assert os.getxattr(made, "system.posix_acl_access") == of_book
 
 
 @pytest.mark.parametrize(

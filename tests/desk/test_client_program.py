@@ -98,9 +98,21 @@ def test_a_program_that_cannot_be_run_is_named(tmp_path: Path) -> None:
 def test_a_program_that_answers_something_else_is_not_taken_for_braildesk(
     tmp_path: Path,
 ) -> None:
-    with pytest.raises(Failed) as caught:
-        Session(tmp_path, program=made(tmp_path / "program", "echo hello; sleep 60"))
-    assert caught.value.sentence == "This is no line of a reply of braildesk: b'hello'."
+    program = made(tmp_path / "program", "echo hello; exec sleep 60")
+    brief = made(tmp_path / "brief", "echo hello")
+    attempts: list[tuple[Path, Callable[[], object]]] = [
+        (program, lambda: Session(tmp_path, program)),
+        (brief, lambda: braildesk.check(tmp_path, brief)),
+        (brief, lambda: braildesk.translate("@en", ["a", "b"], brief)),
+    ]
+    for named, attempt in attempts:
+        with pytest.raises(Failed) as caught:
+            attempt()
+        assert caught.value.sentence == (
+            f"The program “{named}” answers as braildesk doesn't: “hello”. It may be another one"
+            " of that name, or of another version. Let BRAILDESK name the one that belongs to this"
+            " scribe."
+        )
     with pytest.raises(Failed) as caught:
         Session(tmp_path, program=made(tmp_path / "program", "echo Sorry >&2; exit 4"))
     assert caught.value.sentence == "braildesk ended with status 4: Sorry"

@@ -749,6 +749,7 @@ def test_rules_that_were_kept_are_read_again(
         b"# braildesk: rules learned from a word list, one\nletter d 145\n",
         b"# braildesk: rules learned from a word list, one\n" + b"# \n" * 2_000_000,
     ],
+    ids=lambda data: repr(data[-20:]),
 )
 def test_what_was_kept_otherwise_is_not_read(
     shelf: OwnFolder, draft: TableDraft, data: bytes

@@ -173,6 +173,45 @@ def test_a_book_is_known_again_by_a_number_of_any_size(
     assert Drafts(moved).waiting() == NOTE
 
 
+def test_a_text_is_offered_where_a_link_leads_to_the_folder_that_was_renamed(
+    in_folder: Path,
+) -> None:
+    Drafts(in_folder).save(NOTE)
+    folder = in_folder.parent
+    folder.symlink_to(folder.rename(folder.with_name("renamed")))
+    Drafts(in_folder).take_in()
+    assert Drafts(in_folder).waiting() == NOTE
+
+
+def test_a_text_is_offered_by_another_way_to_the_book_once_that_is_open(
+    moon: Path, store: Path
+) -> None:
+    Drafts(moon).save(NOTE)
+    # as where capitals make no difference, or a folder is mounted twice
+    other = moon.with_name("Moon.braildesk")
+    other.hardlink_to(moon)
+    Drafts(other).adopt()
+    assert Drafts(other).waiting() is None and Drafts(moon).waiting() == NOTE
+    Drafts(other).take_in()
+    assert Drafts(other).waiting() == NOTE
+
+
+def test_a_later_file_that_gets_the_inode_of_a_replaced_book_gets_none_of_its_texts(
+    moon: Path, store: Path, monkeypatch: pytest.MonkeyPatch
+) -> None:
+    generation = 1
+    monkeypatch.setattr(
+        "braildesk.desk.identity.generation_of", lambda path: generation
+    )
+    Drafts(moon).save(NOTE)
+    later = moon.rename(moon.with_name("later.braildesk"))
+    shutil.copyfile(later, moon)
+    generation = 2
+    Drafts(later).take_in()
+    assert Drafts(later).waiting() is None
+    assert Drafts(moon).waiting() == NOTE
+
+
 def test_of_two_drafts_that_a_moved_book_finds_none_is_lost(
     moon: Path, store: Path
 ) -> None:

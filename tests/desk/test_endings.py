@@ -17,7 +17,7 @@ from braildesk import Session, SessionEnded
 
 from scribe.cli import make_parser
 from scribe.cli.commands import may_change
-from tool import Ran, environment, scribe
+from tool import ROOT, Ran, environment, scribe
 from words import GIVEN, LOOKING, WORDS
 
 IN_THE_BOOK = "What was reported as kept is in the book, and what was asked after that may be there too."
@@ -328,6 +328,49 @@ def test_a_dropped_signal_comes_again_where_lines_are_typed(before: bool) -> Non
     )
     assert done.stderr == "Stopped by SIGTERM. No book was changed.\n"
     assert done.returncode == -signal.SIGTERM
+
+
+#: Sends this process the signal of Ctrl-C when some module is imported.
+CTRL_C_AT = """\
+import os, signal, sys
+
+def heard(event, words):
+    if event == "import" and words[0] == os.environ["CTRL_C_AT"]:
+        os.kill(os.getpid(), signal.SIGINT)
+
+sys.addaudithook(heard)
+"""
+#: A script as pip writes it.
+OF_PIP = """\
+import sys
+from scribe.__main__ import main
+sys.exit(main())
+"""
+
+
+@pytest.mark.parametrize(
+    "words, module",
+    [
+        (("-m", "scribe"), "typing"),
+        (("-m", "scribe"), "gc"),
+        (("scribe",), "typing"),
+        ((str(ROOT / "bin" / "scribe"),), "gc"),
+    ],
+)
+def test_ctrl_c_ends_scribe_without_a_traceback_from_its_first_line_on(
+    tmp_path: Path, words: tuple[str, ...], module: str
+) -> None:
+    (tmp_path / "sitecustomize.py").write_text(CTRL_C_AT)
+    (tmp_path / "scribe").write_text(OF_PIP)
+    script = [str(tmp_path / each) if each == "scribe" else each for each in words[-1:]]
+    done = subprocess.run(
+        [sys.executable, *(words if words[0] == "-m" else script)],
+        cwd=tmp_path,
+        env=environment(PYTHONPATH=f"{tmp_path}:{ROOT / 'src'}", CTRL_C_AT=module),
+        capture_output=True,
+        text=True,
+    )
+    assert (done.returncode, done.stdout, done.stderr) == (-signal.SIGINT, "", "")
 
 
 def test_a_loop_of_a_shell_stops_where_ctrl_c_stops_scribe(moon: Path) -> None:

@@ -278,16 +278,36 @@ def test_an_import_that_was_taken_back_is_not_called_cut_short(killed: Path) -> 
     assert Drafts(killed).imports() == ()
 
 
-@pytest.mark.parametrize("kept", [0, 12])
+@pytest.mark.parametrize("lines", [["By hand."], LINES])
 def test_an_import_of_which_nothing_or_all_is_in_the_book_is_not_called_cut_short(
-    front: Path, kept: int
+    front: Path, lines: list[str]
 ) -> None:
     Drafts(front).begin_import(begun(front))
     with Session(front) as session:
-        for line in LINES[:kept]:
+        for line in lines:
             session.add_paragraph("end", "en", line)
     assert ran("show", front).said == ""
     assert Drafts(front).imports() == ()
+
+
+def test_a_look_at_an_older_file_of_the_book_forgets_no_import(
+    front: Path, tmp_path: Path
+) -> None:
+    older, newer = tmp_path / "older", tmp_path / "newer"
+    shutil.copyfile(front, older)
+    Drafts(front).begin_import(begun(front))
+    with Session(front) as session:
+        session.add_paragraph(1, "en", LINES[0])
+    shutil.copyfile(front, newer)
+    shutil.copyfile(older, front)
+    text = front.with_name("text.txt")
+    for lines in ("\n".join(LINES), "Other"):
+        text.write_text(lines)
+        assert ran("show", front, "1").said == ""
+    text.write_text("\n".join(LINES))
+    shutil.copyfile(newer, front)
+    assert again(front, "--lines").status == 2
+    assert ran("show", front, "1").said.startswith(where(1))
 
 
 def _fifo(path: Path) -> None:

@@ -193,3 +193,18 @@ def test_pip_installs_both_packages_with_their_files_and_the_command(
     )
     read = f"{kinds}; print((files(c) / 'measured.tsv').is_file())"
     assert ran(binaries / "python3", "-c", read) == "True\n"
+
+
+def test_a_folder_beside_the_command_is_not_taken_for_the_program(
+    tmp_path: Path,
+) -> None:
+    (tmp_path / "bin" / "braildesk").mkdir(parents=True)
+    (tmp_path / "src").symlink_to(ROOT / "src")
+    command = shutil.copy(ROOT / "bin" / "scribe", tmp_path / "bin")
+    done = subprocess.run(
+        [sys.executable, "-I", command, "show", "none.braildesk"],
+        cwd=tmp_path,
+        env={"PATH": os.environ["PATH"], "LC_ALL": "C.UTF-8"},
+        capture_output=True,
+    )
+    assert done.returncode != 0 and b"BRAILDESK names" not in done.stderr

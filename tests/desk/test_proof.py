@@ -355,16 +355,15 @@ def test_a_proof_replaces_an_older_one_and_no_other_file_unless_that_is_asked(
     page = moon.with_name("page.html")
     words = ("proof", moon.name, page.name)
     mine = b"<!DOCTYPE html>\n<html>\n<head>\n<title>Proof of mine</title>\n"
-    for already in (mine, b""):
-        page.write_bytes(already)
-        ran = scribe(*words, folder=moon.parent)
-        assert (ran.status, ran.shown, ran.said) == (
-            2,
-            "",
-            "page.html is there already and is no proof that scribe wrote, so it was left as it is;"
-            " --overwrite replaces it.\n",
-        )
-        assert page.read_bytes() == already
+    page.write_bytes(mine)
+    ran = scribe(*words, folder=moon.parent)
+    assert (ran.status, ran.shown, ran.said) == (
+        2,
+        "",
+        "page.html is there already and is no proof that scribe wrote, so it was left as it is;"
+        " --overwrite replaces it.\n",
+    )
+    assert page.read_bytes() == mine
     ran = scribe(*words, "--overwrite", folder=moon.parent)
     assert (ran.status, ran.shown) == (0, "page.html: 1 page.\n")
     options = ("", "--language en", "--print-first --ascii", "")
@@ -375,8 +374,18 @@ def test_a_proof_replaces_an_older_one_and_no_other_file_unless_that_is_asked(
     # a name that leads elsewhere is no proof either
     page.rename(moon.with_name("elsewhere.html"))
     page.symlink_to("elsewhere.html")
-    assert scribe(*words, folder=moon.parent).status == 2
+    ran = scribe(*words, folder=moon.parent)
+    assert (ran.status, ran.said) == (
+        2,
+        "page.html is a link to elsewhere.html, and was left as it is; --overwrite puts a file in"
+        " place of the link, and leaves what it leads to.\n",
+    )
     assert page.is_symlink()
+    # an empty file, as mktemp makes one, has nothing to lose
+    page.unlink()
+    page.touch(0o600)
+    assert scribe(*words, folder=moon.parent).status == 0
+    assert (page.stat().st_mode & 0o777, page.stat().st_size > 0) == (0o600, True)
 
 
 @pytest.mark.parametrize(

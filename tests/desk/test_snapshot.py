@@ -19,14 +19,15 @@ from braildesk import CannotOpen, Failed, Lost, Session, Why, check, program
 from braildesk import snapshot as own
 from braildesk.files import contents
 from braildesk.held import copy_held
+from braildesk.opening import has_work
 from braildesk.protocol.asked import BookFile
-from braildesk.protocol.requests import Correct
-from braildesk.snapshot import snapshot
+from braildesk.protocol.requests import Correct, Restore, Strike
+from braildesk.snapshot import copied_session, snapshot
 
 from tool import scribe
 
 #: How many snapshots are taken beside a session that writes without a pause, and how many at once.
-SNAPSHOTS, AT_ONCE = 1_000, 16
+SNAPSHOTS, AT_ONCE = 200, 16
 
 
 class Writer(threading.Thread):
@@ -77,6 +78,31 @@ def test_a_snapshot_has_every_command_that_was_kept_before_it(
     finally:
         writer.is_to_end = True
         writer.join()
+
+
+def test_a_book_is_copied_once_more_where_its_log_is_emptied_between_file_and_log(
+    moon: Path, monkeypatch: pytest.MonkeyPatch
+) -> None:
+    emptied: list[bool] = []
+    with Session(moon) as session:
+
+        def at_the_log(log: str) -> bool:
+            """Goes on to the log once it was emptied into the file, which has as many bytes as before."""
+            if not emptied:
+                size, front = moon.stat().st_size, own._header(log)
+                while own._header(log) == front:
+                    for _ in session.each([Strike(2), Restore(2)] * 50):
+                        pass
+                emptied.append(moon.stat().st_size == size)
+            return has_work(log)
+
+        # what the log alone has until then, on a page of the file that isn't written later
+        session.correct(1, 0, 1, "t")
+        monkeypatch.setattr("braildesk.held.has_work", at_the_log)
+        with copied_session(moon) as (copied, _):
+            assert copied.last_version == session.last_version
+            assert copied.history_of(1) == session.history_of(1)
+    assert emptied == [True]
 
 
 def test_a_snapshot_leaves_nothing_and_changes_nothing(moon: Path) -> None:

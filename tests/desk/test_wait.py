@@ -1,7 +1,11 @@
 """A book that another program has open: how long each command of the shell waits for it."""
 
+import fcntl
 import hashlib
 import io
+import os
+import subprocess
+import sys
 from pathlib import Path
 
 import pytest
@@ -9,9 +13,12 @@ import pytest
 from braildesk import Session, opening
 from braildesk.desk.drafts import Drafts
 from braildesk.desk.import_note import ImportNote
+from braildesk.protocol.requests import Type
 
 from scribe.cli import run_words
 from scribe.words.console import Console
+from terminal import once_free
+from tool import environment, scribe
 
 
 class Clock:
@@ -92,6 +99,33 @@ def test_a_command_waits_for_as_long_as_it_is_told(
     second = text if words.startswith("import") else moon
     told = words.format(moon, second).split()
     assert run_beside(monkeypatch, moon, 50, *told)[0] == 0
+
+
+@pytest.mark.parametrize(
+    "words", ["show {}", "list {} --width 80", "find {} moon", "pages {} --page 1"]
+)
+def test_others_may_have_a_book_that_a_pager_shows_once_it_is_read(
+    moon: Path, words: str
+) -> None:
+    with Session(moon) as session:
+        lines = [f"{number}: the moon is far away." for number in range(300)]
+        assert len(list(session.each(Type("end", "en", line) for line in lines))) == 300
+    told = [sys.executable, "-m", "scribe", *words.format(moon.name).split()]
+    whole = scribe(*told[3:], folder=moon.parent).shown
+    reader, writer = os.pipe()
+    fcntl.fcntl(writer, fcntl.F_SETPIPE_SZ, 4_096)
+    process = subprocess.Popen(
+        told, cwd=moon.parent, env=environment(), stdout=writer, stderr=writer
+    )
+    os.close(writer)
+    with open(reader, "rb") as pager:
+        # the pager has one line, and waits for a key
+        front = os.read(reader, 20)
+        with once_free(moon) as session:
+            session.strike(2)
+        found = front + pager.read()
+    assert process.wait() == 0
+    assert found.decode().startswith(whole)
 
 
 def test_an_import_that_goes_on_waits_too(

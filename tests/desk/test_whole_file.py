@@ -7,10 +7,15 @@ from pathlib import Path
 
 import pytest
 
-from braildesk.desk.whole_file import Access, NoPlaceForAFile, write_whole
+from braildesk.desk.whole_file import (
+    Access,
+    AnotherIsThere,
+    NoPlaceForAFile,
+    write_whole,
+)
 from braildesk.workshop import MayNotLast
 
-from scribe.words.status import may_not_last
+from scribe.words.status import left_there, may_not_last
 from strangers import NEEDS_ROOT, STRANGER, as_stranger, lead_to
 from tool import scribe
 
@@ -255,6 +260,33 @@ def test_a_file_that_can_not_be_read_may_be_a_book_and_is_not_replaced(
 
     assert as_stranger(write) == ""
     assert book.read_bytes() == b"SQLite format 3\0 of another person"
+
+
+def test_an_empty_file_is_replaced_and_a_link_and_a_pipe_are_named_and_left(
+    tmp_path: Path,
+) -> None:
+    place = tmp_path / "page.html"
+    place.touch(0o600)
+    write_whole(place, b"page", replaces=lambda _: False)
+    assert (place.read_bytes(), place.stat().st_mode & 0o777) == (b"page", 0o600)
+    (tmp_path / "empty").touch()
+    (tmp_path / "link").symlink_to("empty")
+    os.mkfifo(tmp_path / "pipe")
+    # text, also of blanks alone, is somebody's
+    (tmp_path / "blank").write_bytes(b"\n")
+    its = {
+        "link": "link is a link to empty, and was left as it is; --overwrite puts a file in place of"
+        " the link, and leaves what it leads to.",
+        "pipe": "pipe is a pipe, so it was left as it is; --overwrite replaces it.",
+        "blank": "blank is there already and is no proof, so it was left as it is; --overwrite"
+        " replaces it.",
+    }
+    for name, said in its.items():
+        before = (tmp_path / name).lstat().st_ino
+        with pytest.raises(AnotherIsThere) as left:
+            write_whole(tmp_path / name, b"page", replaces=lambda _: False)
+        assert left_there(Path(name), left.value, "proof") == said
+        assert (tmp_path / name).lstat().st_ino == before
 
 
 def test_what_a_killed_writer_left_beside_a_file_is_taken_away_once_it_is_old(

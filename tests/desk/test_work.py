@@ -27,10 +27,10 @@ WORDS = "far away"
 #: How many of our modules are imported, and how many in all, at most.
 MODULES = {
     "--help": (20, 101),
-    "show": (54, 150),
-    "marks": (51, 148),
-    "find": (52, 149),
-    "import": (68, 174),
+    "show": (56, 152),
+    "marks": (53, 150),
+    "find": (54, 151),
+    "import": (69, 176),
 }
 #: Modules that take as long as all of a short command, and are needed by few.
 DEAR = {

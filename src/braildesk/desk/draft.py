@@ -5,6 +5,7 @@ from dataclasses import dataclass, replace
 from enum import Enum, auto
 
 from braildesk.desk.record import NotSuch, Record
+from braildesk.protocol.value import Value
 from braildesk.text import limits
 from braildesk.text.spans import Span
 
@@ -26,8 +27,8 @@ class Aim(Enum):
         return self in (Aim.AFTER, Aim.BEFORE)
 
 
-@dataclass(frozen=True)
-class Draft:
+@dataclass(frozen=True, eq=False, repr=False)
+class Draft(Value):
     """A text that was typed: what for, at which paragraph, and how its print read then.
 
     Lines that were pasted, and may become paragraphs, are parted by LF. The cells are those of the
@@ -81,8 +82,8 @@ class Draft:
         }
 
 
-@dataclass(frozen=True)
-class Unread:
+@dataclass(frozen=True, eq=False, repr=False)
+class Unread(Value):
     """Text that came while nothing could be done with it.
 
     Some of it is lines after those of the text that waits, and the rest a text by itself. Both may

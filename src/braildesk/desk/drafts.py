@@ -2,10 +2,9 @@
 
 The folder is `braildesk` under `XDG_STATE_HOME`, else under `~/.local/state`, and not beside the
 book: a book may come from anybody and lie where others write. Files there are named by the book's
-path; they say that path, and the device and the inode of the book's file.
+path; they say that path, and the identity of the book's file.
 """
 
-import hashlib
 import json
 import os
 from collections.abc import Callable, Mapping
@@ -17,6 +16,7 @@ from typing import TypeVar
 
 from braildesk.desk import Problem
 from braildesk.desk.draft import Draft, Unread, draft_in, unread_in, written
+from braildesk.desk.identity import Identity, identity_of
 from braildesk.desk.import_note import ImportNote, Pairs, note_in, pairs_in, values_of
 from braildesk.desk.own_folder import (
     MOST_BYTES,
@@ -28,6 +28,13 @@ from braildesk.desk.own_folder import (
     state_folder,
 )
 from braildesk.desk.record import NotSuch, Record
+from braildesk.protocol.value import Value
+
+try:
+    # which is loaded in less time than what has all digests, as the library's own random does it
+    from _sha256 import sha256  # type: ignore[import]
+except ImportError:
+    from hashlib import sha256
 
 #: How many texts that were given up are kept for a book.
 MOST_GIVEN_UP = 10
@@ -50,8 +57,8 @@ class Begun(Enum):
     ANSWERS = "answers"
 
 
-@dataclass(frozen=True)
-class LeftAt:
+@dataclass(frozen=True, eq=False, repr=False)
+class LeftAt(Value):
     """Where a book was left: the character or the cell of the cursor, and how the screen was."""
 
     paragraph: int
@@ -108,10 +115,10 @@ class Drafts:
 
     def __init__(self, book: Path) -> None:
         self.book = Path(os.path.realpath(book))
-        self._key = hashlib.sha256(os.fsencode(self.book)).hexdigest()[:32]
+        self._key = sha256(os.fsencode(self.book)).hexdigest()[:32]
         self._folder = OwnFolder(state_folder())
         # what is kept once the book is moved away, as with its folder, is known by this
-        self._file = _identity(self.book)
+        self._file = identity_of(self.book)
 
     @property
     def place(self) -> Path:
@@ -269,7 +276,7 @@ class Drafts:
         is a draft; else it stays where it is, which `NotKept` says.
         """
         self._clear_left()
-        self.adopt()
+        self.adopt(is_open=True)
         beside = self.book.name + "-unsent"
         try:
             with opened(self.book.parent) as folder:
@@ -288,15 +295,23 @@ class Drafts:
         except OSError as cause:
             raise NotTaken(self.book.with_name(beside), cause.strerror) from cause
 
-    def adopt(self) -> None:
-        """Takes over what was kept for this book at a path where it is no more: it was moved."""
-        identity = _identity(self.book)
+    def adopt(self, is_open: bool = False) -> None:
+        """Takes over what was kept for this book at a path where it is found no more: it was moved.
+
+        If it is open here, so is what was kept by another way to it, as where capitals make no
+        difference: nobody else is typing there then.
+        """
+        identity = identity_of(self.book)
         try:
             names = self._folder.names() if identity else []
             missing = {each.value for each in Begun if self._name(each) not in names}
             for name in names:
                 what = name.partition(".")[2]
-                if what in missing and self._is_of(name, identity):
+                if (
+                    what in missing
+                    and identity
+                    and self._is_of(name, identity, is_open)
+                ):
                     self._folder.rename(name, self._name(Begun(what)))
                     missing.discard(what)
         except OSError:
@@ -311,16 +326,25 @@ class Drafts:
             with suppress(NotSuch, OSError, NotSaved):
                 data = self._folder.read(self._name(what))
                 if data is not None:
-                    other._write(what, Record.of(data).without("book", "file"))
+                    other._write(
+                        what, Record.of(data).without("book", "file", "generation")
+                    )
 
-    def _is_of(self, name: str, identity: list[int] | None) -> bool:
-        """Whether a file was kept for this book, at a path where another file is, or none."""
+    def _is_of(self, name: str, identity: Identity, is_open: bool) -> bool:
+        """Whether a file was kept for this book, at a path where it isn't looked for any more.
+
+        Another file is there, or none, or the path leads through a link by now, or nobody else can
+        be at it, since the book is open here.
+        """
         try:
             kept = Record.of(self._folder.read(name) or b"")
             path = Path(kept.path("book"))
         except NotSuch:
             return False
-        return kept.is_equal("file", identity) and _identity(path) != identity
+        if not identity.is_in(kept):
+            return False
+        is_looked_for = os.path.realpath(path) == str(path)
+        return is_open or not is_looked_for or identity_of(path) != identity
 
     def _note(self, notes: tuple[ImportNote, ...]) -> None:
         if notes:
@@ -362,8 +386,9 @@ class Drafts:
         return aside
 
     def _write(self, what: Begun, values: dict[str, object]) -> None:
-        identity = _identity(self.book) or self._file
-        of_book = {"book": str(self.book), "file": identity}
+        identity = identity_of(self.book) or self._file
+        known = identity.values() if identity else {"file": None}
+        of_book: dict[str, object] = {"book": str(self.book), **known}
         whole: dict[str, object] = {**of_book, **values}
         data = json.dumps(whole, ensure_ascii=True, indent=1) + "\n"
         try:
@@ -394,12 +419,3 @@ def _drafts_in(kept: Record) -> tuple[Draft, ...]:
 
 def _notes_in(kept: Record) -> tuple[ImportNote, ...]:
     return tuple(map(note_in, kept.records("imports")))
-
-
-def _identity(book: Path) -> list[int] | None:
-    """The device and the inode of a book's file, none if it isn't there."""
-    try:
-        found = book.stat()
-    except OSError:
-        return None
-    return [found.st_dev, found.st_ino]

@@ -85,7 +85,10 @@ def leave(book: Path, path: Path) -> None:
 def to_go_on(
     drafts: Drafts, session: Session, book: Sequence[Paragraph]
 ) -> tuple[Unfinished | NotSeen | NotKept, ...]:
-    """The imports of which a part is in the book; what is noted of others is taken away."""
+    """The imports of which a part is in the book.
+
+    What is noted of others is taken away, unless the book is as old as before them.
+    """
     found: list[Unfinished | NotSeen | NotKept] = []
     drafts.adopt()
     try:
@@ -97,7 +100,8 @@ def to_go_on(
                 continue
             if its.is_to_go_on:
                 found.append(its)
-            else:
+            elif session.last_version > note.version:
+                # an older file may be there for a while, as one from a backup
                 drafts.end_import(note)
     except NotKept as unread:
         found.append(unread)

@@ -8,6 +8,7 @@ from braildesk import After
 from braildesk.desk.documents.kinds import ManuscriptKind
 from braildesk.desk.documents.options import BRACKETS, ReadingOptions
 from braildesk.desk.record import NotSuch, Record
+from braildesk.protocol.value import Value
 from braildesk.text import limits
 
 _DIGEST = re.compile("[0-9a-f]{64}")
@@ -20,8 +21,8 @@ MOST_CHARACTERS = 100
 Pairs = tuple[tuple[str, str], ...]
 
 
-@dataclass(frozen=True)
-class How:
+@dataclass(frozen=True, eq=False, repr=False)
+class How(Value):
     """How a manuscript becomes paragraphs of a book."""
 
     reading: ReadingOptions
@@ -31,8 +32,8 @@ class How:
     volumes: int | None = None
 
 
-@dataclass(frozen=True)
-class ImportNote:
+@dataclass(frozen=True, eq=False, repr=False)
+class ImportNote(Value):
     """An import that was begun: of which text, how, and what the book was then."""
 
     #: The whole path of the text, and the SHA-256 of its bytes.

@@ -39,6 +39,7 @@ from braildesk.desk.typist import CutShort, look_for, type_all
 from braildesk.desk.unfinished import digest_of, unfinished
 from braildesk.desk.validation import faults
 from braildesk.named_files import is_handed_over
+from braildesk.protocol.value import Value
 from braildesk.session import session_beside
 from braildesk.text import limits
 from braildesk.text.characters import characters_in
@@ -49,8 +50,8 @@ if TYPE_CHECKING:
     from braildesk.desk.text_faults import TextFault
 
 
-@dataclass(frozen=True)
-class Import:
+@dataclass(frozen=True, eq=False, repr=False)
+class Import(Value):
     """A text that is to be typed into a book, and how."""
 
     book: Path
@@ -91,8 +92,8 @@ class Import:
         )
 
 
-@dataclass(frozen=True)
-class TypedText:
+@dataclass(frozen=True, eq=False, repr=False)
+class TypedText(Value):
     """Paragraphs that were typed: the number of the first, how many, and the name of their table."""
 
     first: int

@@ -11,6 +11,7 @@ from braildesk.desk.import_note import How, ImportNote
 from braildesk.desk.manuscript import Passage
 from braildesk.protocol import requests
 from braildesk.protocol.requests import Command, Type
+from braildesk.protocol.value import Value
 
 
 class NotImported(Problem):
@@ -75,8 +76,8 @@ class NotContinuing(NotImported):
         return same[0] if len(same) == 1 else None
 
 
-@dataclass(frozen=True)
-class Intake:
+@dataclass(frozen=True, eq=False, repr=False)
+class Intake(Value):
     """What is to be typed into a book that is at a version and has so many paragraphs."""
 
     version: int

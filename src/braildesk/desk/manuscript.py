@@ -14,6 +14,7 @@ from typing import NamedTuple
 
 from braildesk import Style
 from braildesk.desk import Problem
+from braildesk.protocol.value import Value
 from braildesk.text import limits
 from braildesk.text.sequences import chunks, composed, sequences
 
@@ -66,8 +67,8 @@ class TextLine(NamedTuple):
     columns: tuple[int, ...] = ()
 
 
-@dataclass(frozen=True)
-class Passage:
+@dataclass(frozen=True, eq=False, repr=False)
+class Passage(Value):
     """A paragraph of a text file: lines that are joined by one blank each."""
 
     lines: tuple[TextLine, ...]

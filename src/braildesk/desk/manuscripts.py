@@ -20,6 +20,7 @@ from braildesk.desk.import_note import How
 from braildesk.desk.readings import prints
 from braildesk.desk.replacements import Replaced, Replacer
 from braildesk.named_files import TooLarge, is_handed_over, open_file, read_file
+from braildesk.protocol.value import Value
 from braildesk.text import limits
 
 if TYPE_CHECKING:
@@ -60,8 +61,8 @@ def manuscript_of(
     return Manuscript(kind, tuple(Part(text) for text in texts if text))
 
 
-@dataclass(frozen=True)
-class Taken:
+@dataclass(frozen=True, eq=False, repr=False)
+class Taken(Value):
     """A manuscript on its way into a book."""
 
     passages: tuple[Passage, ...]

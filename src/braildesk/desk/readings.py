@@ -7,12 +7,13 @@ from typing import Any, TypeVar
 from braildesk import Mark, Paragraph, Refused, Session
 from braildesk.protocol.answers import read_paragraph
 from braildesk.protocol.requests import Braille, List, Marks, Print, Request
+from braildesk.protocol.value import Value
 
 Answer = TypeVar("Answer")
 
 
-@dataclass(frozen=True, slots=True)
-class ParagraphReading:
+@dataclass(frozen=True, slots=True, eq=False, repr=False)
+class ParagraphReading(Value):
     """A paragraph with its print, its braille and its marks."""
 
     paragraph: Paragraph

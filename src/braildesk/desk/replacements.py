@@ -14,6 +14,7 @@ from braildesk.desk.import_note import Pairs, is_pair
 from braildesk.desk.intake import NotImported
 from braildesk.desk.manuscript import TextLine, Passage, UnreadableText, text_lines
 from braildesk.named_files import read_file
+from braildesk.protocol.value import Value
 from braildesk.text import limits
 from braildesk.text.sequences import composed
 
@@ -34,8 +35,8 @@ class BadReplacements(NotImported):
         self.cause = cause
 
 
-@dataclass(frozen=True)
-class Replaced:
+@dataclass(frozen=True, eq=False, repr=False)
+class Replaced(Value):
     """Characters, those that stand in their place, and how often they were replaced."""
 
     old: str

@@ -3,7 +3,6 @@
 That is seen in the book: the paragraphs that it got since are compared with those of the text.
 """
 
-import hashlib
 from collections.abc import Sequence
 from dataclasses import dataclass
 
@@ -14,6 +13,7 @@ from braildesk.desk.manuscript import Passage, UnreadableText
 from braildesk.desk.manuscripts import taken
 from braildesk.desk.origin import came_from
 from braildesk.named_files import open_file
+from braildesk.protocol.value import Value
 from braildesk.text import limits
 
 
@@ -28,8 +28,8 @@ class NotSeen(NotImported):
         self.cause = cause
 
 
-@dataclass(frozen=True)
-class Unfinished:
+@dataclass(frozen=True, eq=False, repr=False)
+class Unfinished(Value):
     """An import, and how far it came."""
 
     note: ImportNote
@@ -83,7 +83,13 @@ def unfinished(
     session: Session, book: Sequence[Paragraph], note: ImportNote
 ) -> Unfinished:
     """What became of an import, by the book as it is now; `NotSeen` if nothing shows it."""
-    before, rest = _parts(note)
+    try:
+        before, rest = _parts(note)
+    except NotSeen:
+        if note.line == 1 and session.last_version <= note.version:
+            # whatever the text is by now, nothing of it was typed yet
+            return Unfinished(note, 0, (), (), False, has_before=False)
+        raise
     new = range(note.there + 1, len(book) + 1)
     is_untouched = session.last_version == note.version
     kept = 0 if is_untouched else came_from(session, new, rest)
@@ -113,6 +119,8 @@ def _has_last(
 
 def digest_of(data: bytes) -> str:
     """By which a text is known again."""
+    import hashlib  # which takes as long as the program for a table, beside which it is asked for
+
     return hashlib.sha256(data).hexdigest()
 
 

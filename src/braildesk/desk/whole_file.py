@@ -12,7 +12,8 @@ from pathlib import Path
 
 from braildesk.desk import Problem
 from braildesk.opening import MAGIC
-from braildesk.workshop import sync_names
+from braildesk.protocol.value import Value
+from braildesk.workshop import gives_lists, limit_group, mode_of, sync_names
 
 ANYONE = 0o666
 _OF_THE_SYSTEM = ("/dev/", "/proc/")
@@ -33,22 +34,31 @@ class NoPlaceForAFile(OSError):
 
 
 class AnotherIsThere(Problem):
-    """A file of another kind is there, and nobody said that it is to be replaced."""
+    """Something of another kind is there, and nobody said that it is to be replaced."""
+
+    def __init__(self, name: str, mode: int, leads_to: str | None = None) -> None:
+        super().__init__(name)
+        self.mode = mode
+        #: What it leads to, if it is a link.
+        self.leads_to = leads_to
 
 
-@dataclass(frozen=True)
-class Access:
+@dataclass(frozen=True, eq=False, repr=False)
+class Access(Value):
     """Who may read and write a new file, as far as the umask allows."""
 
     mode: int = ANYONE
     #: The group that the mode means, if that isn't any.
     group: int | None = None
+    #: What those may do at most to whom the folder gives access by a list (ACL).
+    listed: int = 0
 
     @classmethod
     def of(cls, path: Path) -> "Access":
         """That of a file from which another one is made."""
         found = path.stat()
-        return cls(found.st_mode & ANYONE, found.st_gid)
+        listed = found.st_mode & ANYONE & stat.S_IRWXG
+        return cls(mode_of(path, found) & ANYONE, found.st_gid, listed)
 
 
 def write_whole(
@@ -64,7 +74,8 @@ def write_whole(
     `MayNotLast` comes after it. The name alone is replaced: a link there is gone and the file that
     it led to stays as it was, and a pipe of that name isn't opened. A file of one's own keeps its
     permissions to read and write. Any other gets what is said here and the umask allows. A book is
-    never replaced, nor, with `AnotherIsThere`, what may not be by its front, if that is asked.
+    never replaced, nor, with `AnotherIsThere`, what may not be by its front, if that is asked, unless
+    it is an empty file, as `mktemp` makes one.
     """
     path = path if path.name else path.resolve()
     folder = os.open(path.parent, os.O_RDONLY | os.O_DIRECTORY | os.O_CLOEXEC)
@@ -140,8 +151,11 @@ def _kept_permissions(name: str, folder: int, replaces: Replaces | None) -> int 
     if head.startswith(MAGIC):
         # which nobody means when pages or a table are written
         raise NoPlaceForAFile(errno.EINVAL, "a book is there, which was left as it is")
-    if replaces is not None and not (is_file and replaces(head)):
-        raise AnotherIsThere(name)
+    is_empty = is_file and not (older.st_size or head)
+    if not (replaces is None or is_empty or is_file and replaces(head)):
+        is_link = stat.S_ISLNK(older.st_mode)
+        leads_to = os.readlink(name, dir_fd=folder) if is_link else None
+        raise AnotherIsThere(name, older.st_mode, leads_to)
     if not is_file:
         return None
     return older.st_mode & ANYONE if older.st_uid == os.geteuid() else None
@@ -172,10 +186,14 @@ def _write(
 ) -> None:
     flags = os.O_WRONLY | os.O_CREAT | os.O_EXCL | os.O_NOFOLLOW | os.O_CLOEXEC
     created = access.mode if kept is None else 0o600
+    if kept is None and gives_lists(folder):
+        created |= access.listed
     with open(os.open(name, flags, created, dir_fd=folder), "wb") as file:
         if kept is not None:
             os.fchmod(file.fileno(), kept)
         elif access.group is not None:
+            with suppress(OSError):
+                limit_group(file.fileno(), access.mode)
             _take_group(file.fileno(), folder, access.mode, access.group)
         file.write(data)
         file.flush()

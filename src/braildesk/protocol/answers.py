@@ -5,6 +5,7 @@ from dataclasses import dataclass
 from typing import Generic, TypeVar
 
 from braildesk.protocol.replies import Reply
+from braildesk.protocol.value import Value
 from braildesk.protocol.values import (
     Corrected,
     Done,
@@ -21,8 +22,8 @@ from braildesk.protocol.values import (
 Answer = TypeVar("Answer", covariant=True)
 
 
-@dataclass(frozen=True, slots=True)
-class Result(Generic[Answer]):
+@dataclass(frozen=True, slots=True, eq=False, repr=False)
+class Result(Value, Generic[Answer]):
     """What a kind of request gives, read from its reply."""
 
     read: Callable[[Reply], Answer]

@@ -8,21 +8,22 @@ from dataclasses import dataclass
 from typing import TYPE_CHECKING, Any, TypeAlias
 
 from braildesk.protocol.sentences import Why
+from braildesk.protocol.value import Value
 
 if TYPE_CHECKING:
     from braildesk.protocol.requests import Request
 
 
-@dataclass(frozen=True)
-class PrintLine:
+@dataclass(frozen=True, eq=False, repr=False)
+class PrintLine(Value):
     """A line of print that was to be translated."""
 
     table: str
     text: str
 
 
-@dataclass(frozen=True)
-class AskedOfFile:
+@dataclass(frozen=True, eq=False, repr=False)
+class AskedOfFile(Value):
     """What names a file."""
 
     path: str
@@ -36,14 +37,14 @@ class NewBook(AskedOfFile):
     """The file of a book that was to be made."""
 
 
-@dataclass(frozen=True)
+@dataclass(frozen=True, eq=False, repr=False)
 class TableFile(AskedOfFile):
     """The file of a table, with its text if that could be read."""
 
     text: bytes = b""
 
 
-@dataclass(frozen=True)
+@dataclass(frozen=True, eq=False, repr=False)
 class Pages(AskedOfFile):
     """A volume of a book that was to be written as pages."""
 
@@ -56,8 +57,8 @@ class Pages(AskedOfFile):
 Asked: TypeAlias = "Request[Any] | PrintLine | AskedOfFile"
 
 
-@dataclass(frozen=True, slots=True)
-class Refusal:
+@dataclass(frozen=True, slots=True, eq=False, repr=False)
+class Refusal(Value):
     """A code with its numbers, and what was asked."""
 
     code: int

@@ -37,7 +37,7 @@ class Unwritable(ValueError):
         return f"a request can't be written ({self.code})"
 
 
-@dataclass(frozen=True, eq=False)
+@dataclass(frozen=True, eq=False, repr=False)
 class Field(ABC):
     """A kind of field."""
 
@@ -69,7 +69,7 @@ class Field(ABC):
         return str(value)
 
 
-@dataclass(frozen=True, eq=False)
+@dataclass(frozen=True, eq=False, repr=False)
 class Number(Field):
     """A number from 0 on, in decimal digits."""
 
@@ -109,7 +109,7 @@ class Anchor(Number):
         return word if word in self.words else super().read(word)
 
 
-@dataclass(frozen=True, eq=False)
+@dataclass(frozen=True, eq=False, repr=False)
 class Choice(Field):
     """One of a few words."""
 
@@ -154,7 +154,7 @@ class Name(Field):
         return plain(value)
 
 
-@dataclass(frozen=True, eq=False)
+@dataclass(frozen=True, eq=False, repr=False)
 class Text(Field):
     """A text or a note."""
 

@@ -20,9 +20,10 @@ class Unreadable(Exception):
 
     def __init__(self, line: bytes) -> None:
         super().__init__(line)
+        self.line = line
 
     def __str__(self) -> str:
-        return f"This is no line of a reply of braildesk: {self.args[0][:80]!r}."
+        return f"This is no line of a reply of braildesk: {self.line[:80]!r}."
 
 
 class Reader:

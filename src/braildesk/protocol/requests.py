@@ -28,6 +28,7 @@ from braildesk.protocol.fields import (
     Unwritable,
     lines_of,
 )
+from braildesk.protocol.value import Value
 from braildesk.protocol.values import Corrected, Done, Entry, Marked, Paragraph, Typed
 from braildesk.text import limits
 from braildesk.text.characters import shortened
@@ -188,8 +189,8 @@ class Table(Command[Done]):
         )
 
 
-@dataclass(frozen=True)
-class TableHead:
+@dataclass(frozen=True, eq=False, repr=False)
+class TableHead(Value):
     """The line of a request ``table``, which the lines of the table's text follow."""
 
     table: str

@@ -24,10 +24,12 @@ class Why(StrEnum):
     NO_DATABASE = "no database"
     READ_ONLY = "read-only"
     NO_ROOM = "no room"
+    OVER_QUOTA = "over quota"
     IN_USE = "in use"
     LINKED = "linked"
     OTHER_LOG = "log of another"
     NO_LOG = "no log"
+    LONG_NAME = "long name"
     JOURNAL = "journal"
     COMPUTED = "computed"
     NO_SCHEMA = "no schema"
@@ -157,6 +159,8 @@ UNOPENED = MappingProxyType(
         " be written. {nothing} Copy the book to another disk.",
         Why.NO_ROOM: "There is no room on the disk of {path}. {nothing} Make room there,"
         " and try again.",
+        Why.OVER_QUOTA: "What you may use of the disk of {path} is used up (a quota). {nothing}"
+        " Remove files of yours there, or ask for more room, and try again.",
         Why.NO_DATABASE: "{path} is no book, since it isn't even a database. {nothing}"
         " Check that the path is right.",
         Why.IN_USE: "Another program has {path} open. {nothing} End that one first.",
@@ -170,6 +174,8 @@ UNOPENED = MappingProxyType(
         Why.NO_LOG: "What stands at {log} is no file of its own, but a link, a folder, a pipe or"
         " another such thing, and the newest work of {path} would be looked for there. {nothing}"
         " Move it away.",
+        Why.LONG_NAME: "The path {path} is too long for a book: that of its log, which ends in -wal"
+        " besides, can't be made. {nothing} Give the file a shorter name.",
         Why.JOURNAL: "Beside {path} lies {journal}, which braildesk never makes: another program"
         " was stopped while it changed that file, or somebody put it there. {nothing}"
         " Keep both files, and go on with an earlier copy.",

@@ -4,6 +4,8 @@ from dataclasses import dataclass
 from enum import StrEnum
 from typing import Literal, TypeAlias
 
+from braildesk.protocol.value import Value
+
 #: Where a paragraph is put: before all others, after all others, or after the one of this number.
 After: TypeAlias = int | Literal["front", "end"]
 
@@ -20,30 +22,6 @@ class Kind(StrEnum):
 
     CORRECT = "correct"
     UNDO = "undo"
-
-
-class Value:
-    """What is equal to another one of its kind with the same fields."""
-
-    __slots__ = ()
-
-    # once for all values, since each is made as a class whenever a command is run
-    def __eq__(self, other: object) -> bool:
-        if not isinstance(other, Value):
-            return False
-        return type(other) is type(self) and _fields(other) == _fields(self)
-
-    def __hash__(self) -> int:
-        return hash((type(self), *_fields(self).values()))
-
-    def __repr__(self) -> str:
-        given = ", ".join(f"{key}={value!r}" for key, value in _fields(self).items())
-        return f"{type(self).__qualname__}({given})"
-
-
-def _fields(value: Value) -> dict[str, object]:
-    names: tuple[str, ...] = value.__slots__
-    return {name: getattr(value, name) for name in names}
 
 
 @dataclass(frozen=True, slots=True, eq=False, repr=False)

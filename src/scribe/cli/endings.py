@@ -106,7 +106,7 @@ def said_of(
     match failure:
         case Lost():
             return Status.FAILED, after_loss(arguments.file, failure)
-        case CannotOpen(why=Why.READ_ONLY | Why.NO_ROOM):
+        case CannotOpen(why=Why.READ_ONLY | Why.NO_ROOM | Why.OVER_QUOTA):
             # the disk is why, and not what was asked
             return Status.FAILED, [failure.sentence]
         case Failed() | NoProgram():
@@ -199,7 +199,7 @@ def _interrupted(number: int, frame: FrameType | None) -> None:
     raise Interrupted(signal.Signals(number))
 
 
-@dataclass(frozen=True)
+@dataclass(frozen=True, eq=False, repr=False)
 class _Again:
     """Has a signal come again."""
 

@@ -2,7 +2,7 @@
 
 from argparse import Namespace
 from collections.abc import Callable, Iterator
-from contextlib import contextmanager, suppress
+from contextlib import contextmanager, nullcontext, suppress
 from pathlib import Path
 
 from braildesk import (
@@ -35,7 +35,9 @@ def answered(
 ) -> Status:
     """Does what the words of a command ask for, on the book that a program has begun to open."""
     answer = command.answering()
-    with places_shown(console.columns):
+    # others may have a book that is looked at once it is read, whenever that is read on by a person
+    ahead = nullcontext(console) if command.may_change(arguments) else console.ahead()
+    with places_shown(console.columns), ahead as console:
         with _opened(command, beginning, arguments, console) as session:
             outcome = answer(session, arguments, console)
     return outcome if isinstance(outcome, Status) else Status.DONE

@@ -77,7 +77,7 @@ class _Version(argparse.Action):
         raise TextAsked(f"{parser.prog} {version()}")
 
 
-@dataclass(frozen=True, eq=False)
+@dataclass(frozen=True, eq=False, repr=False)
 class Asked:
     """A word that has to be there. A prompt asks for it if it is missing."""
 

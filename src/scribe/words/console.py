@@ -5,8 +5,8 @@ import os
 import sys
 import time
 from collections.abc import Callable, Iterable, Iterator
-from contextlib import suppress
-from dataclasses import dataclass
+from contextlib import contextmanager, suppress
+from dataclasses import dataclass, replace
 from io import StringIO
 from typing import BinaryIO, TextIO
 
@@ -71,7 +71,7 @@ class OutputClosed(OutputFailed):
         self.sentence = "Standard output is closed, so nothing was done."
 
 
-@dataclass(frozen=True)
+@dataclass(frozen=True, eq=False, repr=False)
 class Console:
     """Standard input and output, and standard error.
 
@@ -170,6 +170,51 @@ class Console:
                 yield text + "\n"
             else:
                 yield from (line + "\n" for line in wrap(text, self.width, indent))
+
+    @contextmanager
+    def ahead(self) -> Iterator["Console"]:
+        """The console for work that no reader is to hold up: it waits for them once that is done.
+
+        If that is told to end, what wasn't read yet is left out.
+        """
+        # imported only by a command that shows something to somebody
+        from scribe.words.outgoing import Outgoing, has_reader
+
+        numbers = self._descriptors()
+        if numbers is None or not has_reader(numbers[0]):
+            yield self
+            return
+        self.flush()
+        outgoing, failed = Outgoing(), None
+        output, errors = map(outgoing.stream, numbers)
+        console = replace(self, output=output, errors=errors)
+        try:
+            try:
+                yield console
+            except OutputFailed:
+                raise
+            except Exception as failure:
+                failed = failure
+            console.flush()
+            outgoing.end()
+        except KeyboardInterrupt:
+            with suppress(OutputFailed, OSError):
+                console.flush()
+                outgoing.cut_short()
+            raise
+        except OSError as cause:
+            raise OutputFailed(cause) from cause
+        finally:
+            outgoing.close()
+        if failed is not None:
+            raise failed
+
+    def _descriptors(self) -> tuple[int, int] | None:
+        """Where lines and errors go, None if somebody hears them in this process."""
+        try:
+            return self.output.fileno(), self.errors.fileno()
+        except OSError:
+            return None
 
     def progress(self, what: str) -> Callable[[int, int], None]:
         """A function of how many are done, of how many, that says so from time to time.

@@ -44,6 +44,15 @@ def changed_since(draft: Draft, now: str) -> str:
     return " The print there has been changed since."
 
 
+def without_paragraph(draft: Draft) -> str:
+    """What becomes of a text whose paragraph the book doesn't have, after a blank; or nothing."""
+    if draft.aim.is_new:
+        return ""
+    number = draft.paragraph
+    why = f"The book has no paragraph {number}, so it" if number else "It"
+    return f" {why} would be a new paragraph."
+
+
 def came_last(text: str) -> str:
     """That a text which came while the program was waited for is among those given up."""
     joined = text.replace("\n", " ")

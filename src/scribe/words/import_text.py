@@ -13,6 +13,7 @@ from braildesk.desk.documents.kinds import (
     NoDocument,
     NotConverted,
     NotRead,
+    Spent,
     WhyNot,
 )
 from braildesk.desk.drafts import NotKept
@@ -473,10 +474,10 @@ def unreadable(fault: UnreadableText) -> str:
                 f"is {kind_name(kind)}, which {name} reads, and {name} is not installed. Debian has it"
                 f" as {package}"
             )
-        case BrokenOff(name=name):
-            return f"takes {name} more time or memory than any book, and was given up"
+        case BrokenOff(name=name, spent=spent):
+            return f"takes {name} {_SPENT[spent]} than any book, and was given up. {_APART}"
         case NotConverted(name=name, said=said):
-            why_not = f": {visible(said)}" if said else ""
+            why_not = f": {visible(said)}" if said else ", which doesn't say why"
             return f"can't be read by {name}{why_not.removesuffix('.')}"
         case NotRead():
             return "can't be read: pandoc says of it what scribe doesn't know"
@@ -490,6 +491,8 @@ def unreadable(fault: UnreadableText) -> str:
     return "is UTF-16. Save it as UTF-8, and import it again"
 
 
+_SPENT = {Spent.TIME: "more time", Spent.MEMORY: "more memory"}
+_APART = "Take it apart, or leave out large tables and what is nested deeply, and import it again"
 _NO_DOCUMENT = {
     WhyNot.OTHER: "is no text and no document that scribe reads: these are DOCX, ODT, EPUB, HTML,"
     " Markdown, RTF and DOC",
@@ -498,7 +501,9 @@ _NO_DOCUMENT = {
     WhyNot.DAMAGED: "is damaged: it begins as a document does, and its parts can't be read",
     WhyNot.TOO_LARGE: "unpacks to more than any book has",
     WhyNot.TOO_DEEP: "is nested too deeply: some of it, as an item of a list, stands within hundreds of"
-    " others",
+    " others. Save it without these levels, and import it again",
+    WhyNot.TABLES: "has tables with over 100,000 empty places, in rows shorter than others or under cells"
+    " that go on over rows or columns. Take these tables out or apart, and import it again",
     WhyNot.ENCRYPTED: "is encrypted. Save it without a password, and import it again",
     WhyNot.COPY_PROTECTED: "is protected against copying. Ask the publisher for a file that isn't",
     WhyNot.BOOK: "is a book of braildesk, and no manuscript",

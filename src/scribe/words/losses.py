@@ -49,6 +49,10 @@ _SAID = {
         "1 number of a note is typed whose note isn't found where it leads",
         "{} numbers of notes are typed whose notes aren't found where they lead",
     ),
+    LossKind.NOTE_AGAIN: (
+        "1 note to which several numbers lead is typed after each of them",
+        "{} notes to which several numbers lead are typed after each of them",
+    ),
     LossKind.HIDDEN: (
         "1 piece of text that is hidden in the document is typed too",
         "{} pieces of text that are hidden in the document are typed too",

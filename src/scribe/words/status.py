@@ -4,11 +4,16 @@ import enum
 import errno
 import os
 import signal
+import stat
 from collections.abc import Iterable, Iterator
 from contextlib import contextmanager
 from pathlib import Path
+from typing import TYPE_CHECKING
 
 from braildesk.desk import Problem
+
+if TYPE_CHECKING:
+    from braildesk.desk.whole_file import AnotherIsThere
 
 _OF_DISK = (errno.ENOSPC, errno.EDQUOT, errno.EROFS, errno.EIO, errno.ESTALE)
 
@@ -116,6 +121,19 @@ def may_not_last(file: Path, failure: OSError) -> str:
         f"{file} is written, but its folder could not be brought to the disk:"
         f" {failure.strerror}. After a loss of power the older file may be there."
     )
+
+
+def left_there(path: Path, there: "AnotherIsThere", what: str) -> str:
+    """That what stands at a path wasn't replaced; `what` is what a file there isn't."""
+    if there.leads_to is not None:
+        return (
+            f"{path} is a link to {there.leads_to}, and was left as it is; --overwrite puts a file in"
+            " place of the link, and leaves what it leads to."
+        )
+    its = f"is there already and is no {what}"
+    if not stat.S_ISREG(there.mode):
+        its = f"is {'a pipe' if stat.S_ISFIFO(there.mode) else 'no file'}"
+    return f"{path} {its}, so it was left as it is; --overwrite replaces it."
 
 
 def _is_nowhere() -> bool:

@@ -28,7 +28,7 @@ from scribe.cli.opened_book import as_kept
 from scribe.cli.parser import Subparsers, command_parser, readable
 from scribe.words.console import Console
 from scribe.words.import_text import unreadable
-from scribe.words.status import Status, Stop, may_not_last
+from scribe.words.status import Status, Stop, left_there, may_not_last
 
 MORE = """\
 TABLE is a table that liblouis has, by its name, as de-g0.utb or de-g0, or its title, or a
@@ -43,7 +43,8 @@ With --for MANUSCRIPT rules are learned besides, by asking liblouis, from a list
 and from the words of a text, a document or a book, so that a contracted table writes it
 as liblouis does. What differs still is said with its causes: such a table is to be proofread.
 docs/contracted.md makes a book so.
-A FILE that bring wrote before is replaced, and any other only with --overwrite."""
+A FILE that bring wrote before or that is empty is replaced, and any other only with
+--overwrite."""
 EXAMPLE = """\
 scribe bring --list
 scribe bring --list Spanish
@@ -168,14 +169,11 @@ def _judge_file(table: Path, arguments: Namespace) -> None:
         try:
             judge_place(file, report.is_brought)
         except AnotherIsThere as taken:
-            raise _not_replaced(file) from taken
+            raise _not_replaced(file, taken) from taken
 
 
-def _not_replaced(file: Path) -> Stop:
-    return Stop(
-        f"{file} is there already and is no table that scribe bring wrote, so it was left as it is;"
-        " --overwrite replaces it."
-    )
+def _not_replaced(file: Path, there: AnotherIsThere) -> Stop:
+    return Stop(left_there(file, there, "table that scribe bring wrote"))
 
 
 def _for_manuscript(table: Path, arguments: Namespace, console: Console) -> Status:
@@ -270,7 +268,7 @@ def _written(text: str, arguments: Namespace, console: Console) -> Status:
     try:
         write_whole(file, text.encode(), replaces=replaces)
     except AnotherIsThere as taken:
-        raise _not_replaced(file) from taken
+        raise _not_replaced(file, taken) from taken
     except MayNotLast as error:
         raise Stop(may_not_last(file, error), Status.FAILED) from error
     except OSError as error:

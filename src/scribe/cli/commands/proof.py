@@ -21,15 +21,15 @@ from scribe.cli.parser import Subparsers, add_file, command_parser
 from scribe.words.console import Console
 from scribe.words.pages import not_exported
 from scribe.words.proof_html import Proof, elsewhere, is_proof
-from scribe.words.status import Status, Stop, may_not_last
+from scribe.words.status import Status, Stop, left_there, may_not_last
 
 MORE = """\
 PROOF is one file of HTML for any browser: each page as it will be embossed, the print
 word by word under the cells, and the marks with their notes beside the lines. A browser
 prints one page on each sheet. --print-first puts the print above the cells, --ascii shows
 the cells in Braille ASCII, --marks-only shows only pages with open marks, and a screen
-reader reads the print alone unless --speak-cells is given. An older proof is replaced, and
-any other file only with --overwrite."""
+reader reads the print alone unless --speak-cells is given. An older proof or an empty file
+is replaced, and any other only with --overwrite."""
 # the form of the codes by which HTML names a language
 _LANGUAGE = re.compile("[A-Za-z]{1,8}(-[A-Za-z0-9]{1,8})*")
 EXAMPLE = "scribe proof moon.braildesk moon.html --width 30 --lines 10"
@@ -74,10 +74,8 @@ def run(arguments: Namespace, console: Console) -> Status:
             judge_place(arguments.proof, replaces)
         return _written(arguments, console, replaces)
     except AnotherIsThere as taken:
-        raise Stop(
-            f"{arguments.proof} is there already and is no proof that scribe wrote, so it was left as"
-            " it is; --overwrite replaces it."
-        ) from taken
+        said = left_there(arguments.proof, taken, "proof that scribe wrote")
+        raise Stop(said) from taken
 
 
 def _written(
