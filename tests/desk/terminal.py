@@ -13,23 +13,32 @@ from termios import FIONREAD
 
 import pexpect  # type: ignore[import]
 import pyte  # type: ignore[import]
+from prompt_toolkit.input.posix_utils import PosixStdinReader
 
 import braildesk
 from braildesk import CannotOpen, Session
 from braildesk.protocol.sentences import Why
 
-from scribe.screen.keyboard import Keyboard, Stroke
-from tool import environment, is_taken_at_start, scribe_in_copy
+from scribe.screen.terminal import Screen
+from scribe.words.console import WAITING
+from tool import (
+    WAIT_SECONDS,
+    at_terminal,
+    end,
+    environment,
+    is_taken_at_start,
+    scribe_in_copy,
+)
 
-WAIT_SECONDS = 60
-# how long the screen may take to be drawn after a key; keys that do nothing draw nothing
-_DRAWN_SECONDS = 1
-# how long nothing is written once all is drawn
+# how long what is written is waited for at once
 _QUIET_SECONDS = 0.02
-# how long Escape waits for a key with Alt, where it isn't seen that it was taken
-_ESCAPE_SECONDS = 0.15
+# where it isn't seen what became of a key: how long it is on its way, how long Escape waits for a key
+# with Alt, and how long the screen may take to be drawn; keys that do nothing draw nothing
+_ARRIVING_SECONDS, _ESCAPE_SECONDS, _DRAWN_SECONDS = 0.2, 0.15, 5
 # longer than a question that comes by itself is on the screen before a key answers it
 _READING_SECONDS = 0.5
+# longer than keys that come together, as pasted text does, are apart
+_TYPING_SECONDS = 0.06
 # what shows the cursor once the screen is drawn to its end, and what hides it before
 _SHOWN, _HIDDEN = b"\x1b[?25h", b"\x1b[?25l"
 STAND_IN = Path(__file__).with_name("stand_in.py")
@@ -59,29 +68,42 @@ KEYS = {
 }
 
 
-class Escapes:
-    """How often scribe, in a copy of this process, has taken Escape for a key by itself."""
+class Progress:
+    """How far scribe, in a copy of this process, has come with what was sent to its terminal."""
 
     def __init__(self) -> None:
         # both processes have it
-        self._shared = mmap.mmap(-1, 8)
+        self._shared = mmap.mmap(-1, 16)
 
     @property
-    def count(self) -> int:
-        """How often it has."""
+    def read(self) -> int:
+        """How many bytes it has read."""
         return int.from_bytes(self._shared[:8], "little")
 
-    def count_here(self) -> None:
-        """Counts them in this process from now on."""
-        last = Keyboard.last
+    @property
+    def done(self) -> int:
+        """So many of them are carried out and drawn, and no key is held."""
+        return int.from_bytes(self._shared[8:], "little")
 
-        def counted(keyboard: Keyboard) -> list[Stroke]:
-            found = last(keyboard)
-            count = self.count + found.count("escape")
-            self._shared[:8] = count.to_bytes(8, "little")
-            return found
+    def follow(self) -> None:
+        """Has this process say from now on how far it has come."""
+        read, rest = PosixStdinReader.read, Screen._rest
 
-        setattr(Keyboard, "last", counted)
+        def counted(reader: PosixStdinReader, count: int = 1024) -> str:
+            text = read(reader, count)
+            came = len(text.encode("utf-8", "surrogateescape"))
+            self._shared[:8] = (self.read + came).to_bytes(8, "little")
+            return text
+
+        def rested(screen: Screen, works: int) -> None:
+            rest(screen, works)
+            keyboard = screen._keyboard
+            is_held = screen._arrivals.due is not None or keyboard._rest
+            if screen._is_idle and (not is_held or keyboard.is_pasting):
+                self._shared[8:] = self._shared[:8]
+
+        setattr(PosixStdinReader, "read", counted)
+        setattr(Screen, "_rest", rested)
 
 
 class Terminal:
@@ -97,27 +119,26 @@ class Terminal:
         self.written = b""
         #: How often the screen was drawn to its end, until now and until the last key.
         self._drawn = self._drawn_before = 0
-        self._pressed_at, self._pressed = 0.0, ""
-        #: How many of Escape were pressed; those that scribe has taken, if that is seen.
-        self._escaped, self._escapes = 0, Escapes()
+        self._pressed = ""
+        #: How many bytes were sent, and how far scribe has come with them, if that is seen.
+        self._sent, self._progress = 0, Progress()
         self._is_seen = not is_taken_at_start(more)
         self._errors = book.parent / "errors"
         words, first = ["edit", str(book)], environment(**settings)
         begin = begin_errors
         if self._is_seen:
             begin = scribe_in_copy(words, first, self._begin)
-        self._child = pexpect.spawn(
+        self._child = at_terminal(
             sys.executable,
-            ["-m", "scribe", *words],
-            cwd=str(book.parent),
-            env=first,
-            preexec_fn=begin,
-            dimensions=(lines, columns),
-            timeout=WAIT_SECONDS,
+            "-m",
+            "scribe",
+            *words,
+            settings=first,
+            folder=book.parent,
+            begin=begin,
+            size=(lines, columns),
+            encoding=None,
         )
-        # keys are sent once the screen is there, and need no pause
-        self._child.delaybeforesend = None
-        self._child.ptyproc.delayafterclose = 0
 
     @property
     def lines(self) -> list[str]:
@@ -131,8 +152,9 @@ class Terminal:
 
     @property
     def said(self) -> str:
-        """What scribe has written on standard error."""
-        return self._errors.read_text(encoding="utf-8")
+        """What scribe has written on standard error, but for what it says on a slow machine alone."""
+        said = self._errors.read_text(encoding="utf-8")
+        return said.replace(f"{WAITING}\n", "")
 
     def keys(self, *names: str) -> None:
         """Presses keys, each by its name or its character; more characters are one text.
@@ -144,14 +166,12 @@ class Terminal:
             if name not in KEYS and len(name) > 1 and not name.startswith("a-"):
                 self.paste(name)
                 continue
-            is_held = _is_held(name)
-            self._await_escape()
-            if self._pressed == "escape" or is_held and _is_held(self._pressed):
+            is_held = _is_held(name) and _is_held(self._pressed)
+            if self._pressed == "escape" or is_held:
                 self._await_drawn()
-            self._drawn_before, self._pressed_at = self._drawn, time.monotonic()
+            self._drawn_before = self._drawn
             self._pressed = name
-            self._escaped += name == "escape"
-            self._child.send(_sent_for(name))
+            self._send(_sent_for(name))
 
     def answer(self, name: str) -> None:
         """Answers a question that comes by itself by a key, once there was time to read it."""
@@ -162,41 +182,63 @@ class Terminal:
 
     def await_read(self) -> None:
         """Waits until scribe has read all that was sent."""
-        flags = os.O_RDONLY | os.O_NONBLOCK | os.O_NOCTTY
-        end = time.monotonic() + WAIT_SECONDS
-        terminal = os.open(f"/proc/{self._child.pid}/fd/0", flags)
-        try:
-            while int.from_bytes(ioctl(terminal, FIONREAD, bytes(4)), sys.byteorder):
+        if self._is_seen:
+            end = time.monotonic() + WAIT_SECONDS
+            while self._progress.read < self._sent:
                 assert time.monotonic() < end, self.lines
                 time.sleep(0.01)
+            return
+        # it comes to the other end of the terminal a moment later
+        time.sleep(_ARRIVING_SECONDS)
+        flags = os.O_RDONLY | os.O_NONBLOCK | os.O_NOCTTY
+        terminal = os.open(f"/proc/{self._child.pid}/fd/0", flags)
+        try:
+            self.await_count(terminal, 0)
         finally:
             os.close(terminal)
 
-    def send(self, text: str) -> None:
-        """Sends characters all at once."""
-        self._await_escape()
-        self._child.send(text)
+    def await_count(self, terminal: int, count: int) -> None:
+        """Waits until so many bytes are at the end of the terminal that scribe has, and unread."""
+        end = time.monotonic() + WAIT_SECONDS
+        while ioctl(terminal, FIONREAD, bytes(4)) != count.to_bytes(4, sys.byteorder):
+            assert time.monotonic() < end, self.lines
+            time.sleep(0.01)
 
-    def _await_escape(self) -> None:
-        """Waits until Escape was taken, if it was pressed last: on a busy machine that may be late.
+    def send(self, text: str) -> None:
+        """Sends characters all at once, once Escape was taken, if it was pressed last.
 
         A key that came before would be one with Alt.
         """
-        if self._pressed != "escape":
-            return
+        if self._pressed == "escape":
+            self._await_drawn()
+        self._send(text)
+
+    def type_on(self, text: str) -> None:
+        """Types characters as fast as hands do, whatever becomes of them."""
+        for character in text:
+            self.send(character)
+            time.sleep(_TYPING_SECONDS)
+
+    def _send(self, text: str) -> None:
+        self._sent += len(text.encode())
+        self._child.send(text)
+
+    def _await_drawn(self) -> None:
+        """Waits until all that was sent is carried out and drawn: on a busy machine that may be late."""
         if not self._is_seen:
-            self.await_read()
-            self._pressed_at = time.monotonic()
+            self._await_written()
             return
         end = time.monotonic() + WAIT_SECONDS
-        while self._escapes.count < self._escaped:
+        while self._progress.done < self._sent:
             assert time.monotonic() < end, self.lines
             self._read(_QUIET_SECONDS)
 
-    def _await_drawn(self) -> None:
+    def _await_written(self) -> None:
         """Waits until the screen is drawn after the last key, and nothing more is written."""
-        is_late = self._pressed == "escape" and not self._is_seen
-        least = self._pressed_at + (_ESCAPE_SECONDS if is_late else 0)
+        least = time.monotonic()
+        if self._pressed == "escape":
+            self.await_read()
+            least = time.monotonic() + _ESCAPE_SECONDS
         end = time.monotonic() + _DRAWN_SECONDS
         while time.monotonic() < end:
             is_written = self._read(_QUIET_SECONDS)
@@ -214,9 +256,17 @@ class Terminal:
         while not any(wanted in line for line in self.lines):
             assert time.monotonic() < end, (wanted, self.lines)
             self._read()
-        while not self._is_drawn and self._read():
-            pass
+        while not self._is_drawn:
+            assert time.monotonic() < end, (wanted, self.lines)
+            self._read()
         return self.lines
+
+    def wait_gone(self, words: str) -> None:
+        """Waits until no line has some words."""
+        end = time.monotonic() + WAIT_SECONDS
+        while any(words in line for line in self.lines):
+            assert time.monotonic() < end, (words, self.lines)
+            self._read()
 
     @property
     def _is_drawn(self) -> bool:
@@ -278,10 +328,13 @@ class Terminal:
             os.close(end)
 
     def left(self) -> int:
-        """The status with which scribe ends where its terminal is closed."""
+        """The status with which scribe ends where its terminal is closed.
+
+        It may end by the signal too, where a busy machine has it wait for the program by then.
+        """
         status = os.waitstatus_to_exitcode(os.waitpid(self._child.pid, 0)[1])
         self._child.ptyproc.terminated = True
-        return status
+        return 3 if status == -signal.SIGHUP else status
 
     def ended(self) -> int:
         """The status with which scribe ends by itself, or the signal with a minus before it."""
@@ -300,14 +353,11 @@ class Terminal:
 
     def close(self) -> None:
         """Ends scribe, where it hasn't ended yet."""
-        if not self._child.ptyproc.terminated:
-            self._child.kill(signal.SIGKILL)
-            self._child.wait()
-        self._child.close()
+        end(self._child)
 
     def _begin(self) -> None:
         begin_errors()
-        self._escapes.count_here()
+        self._progress.follow()
 
     def _read(self, seconds: float = 0.5) -> bool:
         """Reads what is written within some time, and says whether anything was."""

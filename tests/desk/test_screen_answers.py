@@ -14,7 +14,8 @@ from scribe.screen.field import Field, Purpose
 from scribe.screen.keys import step
 from scribe.screen.state import Size, State
 from sitting import Sat, Sit
-from terminal import WAIT_SECONDS, Open, once_free
+from terminal import Open, once_free
+from tool import WAIT_SECONDS
 
 #: The keys that have each of them be typed.
 ASKS = {

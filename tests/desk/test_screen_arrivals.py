@@ -7,6 +7,7 @@ from pathlib import Path
 
 import pytest
 
+import braildesk
 from braildesk import Session
 from braildesk.desk.draft import Aim, Draft
 from braildesk.desk.drafts import Drafts
@@ -14,7 +15,7 @@ from braildesk.desk.drafts import Drafts
 from scribe.screen.arrivals import UNREAD, Arrivals, Lull, ToBeRead
 from scribe.screen.keyboard import Keyboard, Pasted, Stroke
 from stand_in import READ, WAIT
-from terminal import Open, standing_in
+from terminal import Open, Terminal, standing_in
 
 
 def done_with(*came: tuple[float, str]) -> list[Stroke]:
@@ -184,13 +185,26 @@ def test_keys_before_an_offer_was_read_are_one_text_or_answer_nothing(
 SOON = Draft(Aim.EDIT, 1, "en", "The moon is far away.", "The moon is near.")
 
 
+def pressed_before(book: Path, at: Open, keys: str) -> Terminal:
+    """A terminal whose keys are pressed before its screen is there: the book is opened after that."""
+    program = book.with_name("program")
+    program.write_text(
+        "#!/bin/sh\nuntil [ -e pressed ]; do sleep 0.01; done\n"
+        f"exec '{braildesk.find()}' \"$@\"\n"
+    )
+    program.chmod(0o755)
+    terminal = at(book, 160, BRAILDESK=str(program))
+    terminal.send(keys)
+    book.with_name("pressed").touch()
+    return terminal
+
+
 @pytest.mark.parametrize("key", ["y", "n", "l"])
 def test_a_key_before_the_screen_is_there_answers_no_offer_of_a_text(
     moon: Path, at: Open, key: str
 ) -> None:
     Drafts(moon).save(SOON)
-    terminal = at(moon, 160)
-    terminal.send(key)
+    terminal = pressed_before(moon, at, key)
     terminal.wait(
         "That key came before the question could be read, and was no answer to it."
     )
@@ -206,8 +220,7 @@ def test_a_line_before_the_screen_is_there_is_kept_and_answers_no_offer(
     moon: Path, at: Open
 ) -> None:
     Drafts(moon).save(SOON)
-    terminal = at(moon, 160)
-    terminal.send("no\r")
+    terminal = pressed_before(moon, at, "no\r")
     terminal.wait("U brings it back, for a new paragraph.")
     terminal.wait("Shall it be typed further? y is yes, n is no.")
     assert Drafts(moon).waiting() == SOON
@@ -226,9 +239,7 @@ def test_letters_that_are_typed_on_after_keys_that_came_at_once_answer_no_questi
     time.sleep(0.1)
     terminal.send("n")
     terminal.wait("Are they 3 paragraphs? Enter ends the last line")
-    for key in "ight":
-        terminal.send(key)
-        time.sleep(0.06)
+    terminal.type_on("ight")
     terminal.wait("It rose. It must night")
     terminal.keys("enter")
     terminal.wait("Are they 3 paragraphs? y is yes, n is no.")
@@ -272,9 +283,7 @@ def test_keys_that_were_typed_while_a_command_was_under_way_act_one_by_one(
     terminal.wait("? shows the keys.")
     terminal.keys("s")
     queue.read_bytes()
-    for key in "bvbs":
-        terminal.send(key)
-        time.sleep(0.06)
+    terminal.type_on("bvbs")
     queue.write_bytes(b"")
     terminal.wait("version 12, ")
     terminal.keys("q")

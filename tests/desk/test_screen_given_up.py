@@ -457,10 +457,11 @@ def test_letters_that_came_as_scribe_was_told_to_end_are_kept(
     terminal.wait("? shows the keys.")
     terminal.keys("o", "It")
     terminal.wait("It")
-    terminal.send_signal(signal.SIGSTOP)
-    terminal.send(" rose")
-    terminal.send_signal(signal.SIGTERM)
-    terminal.send_signal(signal.SIGCONT)
+    with terminal.stopped() as end:
+        terminal.send(" rose")
+        terminal.await_count(end, len(" rose"))
+        terminal.send_signal(signal.SIGTERM)
+        terminal.send_signal(signal.SIGCONT)
     assert terminal.ended() == -signal.SIGTERM
     waiting = Drafts(moon).waiting()
     assert waiting and waiting.text == "It rose"

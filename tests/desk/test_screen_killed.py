@@ -13,7 +13,8 @@ import pytest
 from braildesk import Mark, Session
 from braildesk.desk.drafts import Drafts
 from stand_in import ANSWERED, HALF, KEPT, KILL_PROGRAM, KILL_SCRIBE, READ
-from terminal import WAIT_SECONDS, Open, Terminal, once_free, standing_in
+from terminal import Open, Terminal, once_free, standing_in
+from tool import WAIT_SECONDS
 
 #: The keys of each command, and what the screen says once it is kept.
 WORK = (

@@ -7,11 +7,9 @@ import sys
 import termios
 from pathlib import Path
 
-import pexpect  # type: ignore[import]
-
 from braildesk.desk.drafts import Drafts
 from terminal import Open, once_free
-from tool import environment, scribe_in_copy
+from tool import at_end, at_terminal, environment, scribe_in_copy
 
 #: What sets a colour of letters or of what is behind them.
 COLOURS = re.compile(rb"\x1b\[(?:[0-9]+;)*(?:3[0-8]|4[0-8]|9[0-7]|10[0-7])[;m]")
@@ -119,20 +117,17 @@ def test_the_screen_is_drawn_anew_after_a_shell_had_the_terminal(
 def test_a_dumb_terminal_is_refused_and_talk_is_named(moon: Path) -> None:
     words = ["edit", "moon.braildesk"]
     settings = environment(TERM="dumb")
-    child = pexpect.spawn(
+    child = at_terminal(
         sys.executable,
-        ["-m", "scribe", *words],
-        cwd=moon.parent,
-        env=settings,
-        preexec_fn=scribe_in_copy(words, settings),
-        encoding="utf-8",
-        timeout=60,
-        dimensions=(24, 200),
+        "-m",
+        "scribe",
+        *words,
+        settings=settings,
+        folder=moon.parent,
+        begin=scribe_in_copy(words, settings),
     )
-    child.expect(pexpect.EOF)
-    child.close()
+    assert at_end(child) == 2
     assert child.before == (
         "scribe edit needs a terminal on which the cursor moves, and TERM says that this one is"
         " dumb. scribe talk moon.braildesk works here. Nothing was changed.\r\n"
     )
-    assert child.exitstatus == 2

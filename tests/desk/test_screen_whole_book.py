@@ -466,6 +466,7 @@ def test_words_are_changed_on_a_small_terminal_as_they_are_heard(
     tides: Path, at: Open
 ) -> None:
     screen = at(tides, 40, 12)
+    screen.wait("? shows the keys.")
     screen.keys("c", "tide", "enter", "flood", "enter")
     lines = screen.wait("3 places of")
     assert lines[1].startswith("3 places of “tide”, to be “flood”.")

@@ -21,7 +21,7 @@ from scribe.words.status import Interrupted
 from sitting import Sit
 from stand_in import ANSWERED, HALF, KEPT, READ, SIGNAL, WAIT
 from terminal import Open, once_free, standing_in
-from tool import Ran, environment
+from tool import WAIT_SECONDS, Ran, environment
 
 LINES = [f"Line number {number} of the moon." for number in range(1, 601)]
 TOLD = re.compile(
@@ -96,7 +96,7 @@ def between(folder: Path, action: str, number: int) -> dict[str, str]:
         "#!/bin/sh\n"
         f'if [ "$1" = {action} ]; then\n'
         f"  echo >> '{folder}/often'\n"
-        f"  if [ \"$(wc -l < '{folder}/often')\" = {number} ]; then kill -TERM $PPID; sleep 60; fi\n"
+        f"  if [ \"$(wc -l < '{folder}/often')\" = {number} ]; then kill -TERM $PPID; exec sleep {WAIT_SECONDS}; fi\n"
         "fi\n"
         f"exec '{braildesk.find()}' \"$@\"\n"
     )
@@ -261,9 +261,8 @@ def test_an_import_of_the_screen_ends_at_a_signal_and_says_what_is_in_the_book(
     queue.write_bytes(b"")
     assert terminal.ended() == -signal.Signals[name]
     by = "" if name == "SIGINT" else f" by {name}"
-    # a slow machine says before it how far the import has come, and what it waits for
-    slowly = "[0-9,]+ of [0-9,]+ .*|Waiting for braildesk to answer\\."
-    said = re.sub(f"(?m)^({slowly})\n", "", terminal.said)
+    # a slow machine says before it how far the import has come
+    said = re.sub("(?m)^[0-9,]+ of [0-9,]+ .*\n", "", terminal.said)
     assert said.startswith(f"Stopped{by}.\n")
     # in lines of the terminal's width
     said = " ".join(said.split())

@@ -1,109 +1,46 @@
 """scribe talk, by what a person sees at a terminal."""
 
 import os
-import re
 import shutil
 import signal
 import sys
-import threading
 from collections.abc import Iterator
 from pathlib import Path
 
-import pexpect  # type: ignore[import]
 import pytest
 
 import braildesk
 from scribe.cli.commands import AT_PROMPT
 from scribe.words.typed import InvalidInput, words_of
-from tool import Ran, environment, is_taken_at_start, scribe, scribe_in_copy
+from prompted import Prompted
+from tool import at_end, at_terminal, end, environment, scribe
 
 #: Longer than what a terminal that collects lines gives to a program.
 PASTED_BYTES = 20_000
 
 
-class Talk:
-    """A person at a terminal at which scribe talks."""
-
-    def __init__(self, book: Path, *words: str, **more: str) -> None:
-        spoken = ["talk", str(book), *words]
-        settings = environment(TERM="xterm-256color", INPUTRC="/dev/null", **more)
-        is_new = is_taken_at_start(more)
-        self._child = pexpect.spawn(
-            sys.executable,
-            ["-m", "scribe", *spoken],
-            env=settings,
-            preexec_fn=None if is_new else scribe_in_copy(spoken, settings),
-            encoding="utf-8",
-            # a line that is longer than the terminal may be drawn from the middle of a character on
-            codec_errors="replace",
-            timeout=60,
-            dimensions=(24, 200),
-        )
-        self.greeting = self._answer("> ")
-
-    def type(self, line: str, prompt: str = "> ") -> list[str]:
-        """Types a line, and gives the lines that are written before the next prompt."""
-        self._child.send(line + "\r")
-        _, *answer = self._answer(prompt)
-        return answer
-
-    def keys(self, keys: str) -> None:
-        """Types keys without the one that ends the line."""
-        self._child.send(keys)
-
-    def paste(self, text: str) -> None:
-        """Pastes a text, which goes on while what is written is read."""
-        threading.Thread(target=self._child.send, args=(text,), daemon=True).start()
-
-    def wait_for(self, text: str) -> None:
-        """Waits until a text is written."""
-        self._child.expect_exact(text)
-
-    def end(self, line: str) -> Ran:
-        """Types the last line, and gives how scribe ended and what it wrote."""
-        self._child.send(line)
-        self._child.expect(pexpect.EOF)
-        self._child.close()
-        assert self._child.exitstatus is not None
-        return Ran(self._child.exitstatus, self._child.before, "")
-
-    def program(self) -> int:
-        """The process of the session that scribe talks to."""
-        children = Path(f"/proc/{self._child.pid}/task/{self._child.pid}/children")
-        return int(children.read_text().split()[0])
-
-    def hang_up(self) -> int:
-        """Closes the terminal, as its window does, and gives how scribe ended."""
-        self._child.ptyproc.fileobj.close()
-        status = os.waitpid(self._child.pid, 0)[1]
-        self._child.ptyproc.terminated = True
-        return os.waitstatus_to_exitcode(status)
-
-    def close(self) -> None:
-        self._child.close(force=True)
-
-    def _answer(self, prompt: str) -> list[str]:
-        self._child.expect(rf"(?:^|\n){re.escape(prompt)}")
-        lines: list[str] = self._child.before.replace("\r", "").split("\n")
-        return lines
+def talk_about(book: Path, *words: str, **more: str) -> Prompted:
+    """A person at a terminal at which scribe talks about a book."""
+    spoken = ("talk", str(book), *words)
+    return Prompted(*spoken, folder=book.parent, before=None, **more)
 
 
 @pytest.fixture
-def talk(moon: Path) -> Iterator[Talk]:
+def talk(moon: Path) -> Iterator[Prompted]:
     """A person who talks about the book of the examples, in lines of 40."""
-    talk = Talk(moon, "--width", "40")
+    talk = talk_about(moon, "--width", "40")
     yield talk
     talk.close()
 
 
-def test_the_book_is_named_first(talk: Talk) -> None:
+def test_the_book_is_named_first(talk: Prompted) -> None:
     assert talk.greeting == [
         "moon.braildesk: version 7, 3 paragraphs.",
         "  Type help, or quit to end.",
     ]
 
 
-def test_each_answer_begins_with_what_changed(talk: Talk) -> None:
+def test_each_answer_begins_with_what_changed(talk: Prompted) -> None:
     assert talk.type("correct 1 12 3 not so far") == [
         "Paragraph 1: …moon is [not so far] away.",
         "Before: The moon is [far] away.",
@@ -122,7 +59,7 @@ def test_each_answer_begins_with_what_changed(talk: Talk) -> None:
     ]
 
 
-def test_queries_are_answered_in_words(talk: Talk) -> None:
+def test_queries_are_answered_in_words(talk: Prompted) -> None:
     assert talk.type("print 1") == ["The moon is far away."]
     assert talk.type("braille 2") == ["⠠⠞⠓⠑⠀⠠⠞⠊⠙⠑⠎"]
     assert talk.type("where 1 4") == [
@@ -154,7 +91,7 @@ def test_queries_are_answered_in_words(talk: Talk) -> None:
     ]
 
 
-def test_a_refusal_is_a_sentence_and_the_talk_goes_on(talk: Talk) -> None:
+def test_a_refusal_is_a_sentence_and_the_talk_goes_on(talk: Prompted) -> None:
     assert talk.type("undo 9") == [
         "The book has no paragraph 9: it has the",
         "paragraphs 1 to 3. Nothing was changed.",
@@ -173,7 +110,7 @@ def test_a_refusal_is_a_sentence_and_the_talk_goes_on(talk: Talk) -> None:
     assert talk.type("version") == ["The book is at version 7."]
 
 
-def test_words_count_from_1_and_say_that_requests_do_not(talk: Talk) -> None:
+def test_words_count_from_1_and_say_that_requests_do_not(talk: Prompted) -> None:
     assert " ".join(talk.type("correct 1 30 2 x")) == (
         "Paragraph 1 doesn't have the characters 31 to 32: it has 21 characters. Nothing was"
         " changed. Requests count from 0, sentences from 1."
@@ -195,7 +132,7 @@ def test_words_count_from_1_and_say_that_requests_do_not(talk: Talk) -> None:
     ]
 
 
-def test_words_that_stand_otherwise_are_shown(talk: Talk) -> None:
+def test_words_that_stand_otherwise_are_shown(talk: Prompted) -> None:
     assert talk.type("find MOON") == [
         "“MOON” isn't in the book as typed. With",
         "other capitals it is there once; --alike",
@@ -210,7 +147,7 @@ def test_words_that_stand_otherwise_are_shown(talk: Talk) -> None:
     talk.type("")
 
 
-def test_help_names_each_thing_that_can_be_typed(talk: Talk) -> None:
+def test_help_names_each_thing_that_can_be_typed(talk: Prompted) -> None:
     overview = " ".join(talk.type("help"))
     for name in (*AT_PROMPT, "correct-by", "whence", "quit"):
         assert name in overview
@@ -232,7 +169,7 @@ def test_help_names_each_thing_that_can_be_typed(talk: Talk) -> None:
     ]
 
 
-def test_a_command_and_a_request_of_one_name_are_told_apart(talk: Talk) -> None:
+def test_a_command_and_a_request_of_one_name_are_told_apart(talk: Prompted) -> None:
     assert talk.type("mark 1 moon so?")[0] == "Mark 2, open, on “moon”: so?"
     assert talk.type("request mark 1 5 4 so?")[0] == (
         "Mark 3, open, paragraph 1, on “moon”:"
@@ -241,16 +178,16 @@ def test_a_command_and_a_request_of_one_name_are_told_apart(talk: Talk) -> None:
 
 
 @pytest.mark.parametrize("line", ["quit", "q ", " exit"])
-def test_a_talk_ends_by_each_of_its_words(talk: Talk, line: str) -> None:
+def test_a_talk_ends_by_each_of_its_words(talk: Prompted, line: str) -> None:
     assert talk.end(f"{line}\r").status == 0
 
 
-def test_the_word_that_ends_a_talk_takes_no_others(talk: Talk) -> None:
+def test_the_word_that_ends_a_talk_takes_no_others(talk: Prompted) -> None:
     said = "quit takes no words. Type quit alone to end."
     assert " ".join(talk.type("quit now")) == said
 
 
-def test_a_blank_at_the_end_or_the_front_of_a_line_is_taken(talk: Talk) -> None:
+def test_a_blank_at_the_end_or_the_front_of_a_line_is_taken(talk: Prompted) -> None:
     assert talk.type("  ") == []
     assert talk.type(" help quit ")[0] == "quit, q or exit ends the conversation."
     assert talk.type("print 1 ") == ["The moon is far away."]
@@ -291,7 +228,7 @@ def test_a_blank_at_the_end_or_the_front_of_a_line_is_taken(talk: Talk) -> None:
     ],
 )
 def test_words_that_are_refused_say_how_the_line_is_typed(
-    talk: Talk, line: str, answer: str
+    talk: Prompted, line: str, answer: str
 ) -> None:
     assert " ".join(" ".join(talk.type(line)).split()) == answer
 
@@ -322,7 +259,7 @@ def test_a_quotation_mark_that_is_not_closed_is_refused(line: str) -> None:
 
 
 def test_words_are_changed_without_counting(moon: Path) -> None:
-    talk = Talk(moon, "--width", "40", "--by", "anna")
+    talk = talk_about(moon, "--width", "40", "--by", "anna")
     assert talk.type("change", ": ") == [
         "Which paragraph? Type its number. An",
         "  empty line gives up.",
@@ -360,13 +297,15 @@ def test_words_are_changed_without_counting(moon: Path) -> None:
     talk.close()
 
 
-def test_words_are_taken_out(talk: Talk) -> None:
+def test_words_are_taken_out(talk: Prompted) -> None:
     talk.type("change 1 ' far'", ": ")
     assert talk.type("''")[0] == "Paragraph 1: The moon is[] away."
     assert talk.type("change 1 ' is' ''")[0] == "Paragraph 1: The moon[] away."
 
 
-def test_words_of_a_line_that_stand_more_than_once_are_asked_about(talk: Talk) -> None:
+def test_words_of_a_line_that_stand_more_than_once_are_asked_about(
+    talk: Prompted,
+) -> None:
     assert talk.type("change 1 a o", ": ")[:3] == [
         "1: The moon is f[a]r away.",
         "2: The moon is far [a]way.",
@@ -378,7 +317,7 @@ def test_words_of_a_line_that_stand_more_than_once_are_asked_about(talk: Talk) -
     )
 
 
-def test_a_mark_is_put_on_words(talk: Talk) -> None:
+def test_a_mark_is_put_on_words(talk: Prompted) -> None:
     talk.type("mark 2", ": ")
     talk.type("Tides", ": ")
     assert talk.type("a capital?") == [
@@ -396,7 +335,7 @@ def test_a_mark_is_put_on_words(talk: Talk) -> None:
 
 
 def test_change_means_the_paragraph_of_the_mark_in_hand_if_it_names_none(
-    talk: Talk,
+    talk: Prompted,
 ) -> None:
     # before a mark is shown no paragraph is meant
     assert talk.type("change far near")[0] == "Argument PARA: 'far' is not a number."
@@ -411,7 +350,7 @@ def test_change_means_the_paragraph_of_the_mark_in_hand_if_it_names_none(
     assert talk.type("change near far")[0] == "Argument PARA: 'near' is not a number."
 
 
-def test_paragraphs_are_shown_and_words_found(talk: Talk) -> None:
+def test_paragraphs_are_shown_and_words_found(talk: Prompted) -> None:
     assert talk.type("show --paragraphs 2") == [
         "Paragraph 2, body",
         "The Tides",
@@ -424,13 +363,13 @@ def test_paragraphs_are_shown_and_words_found(talk: Talk) -> None:
     ]
 
 
-def test_an_empty_line_gives_up_what_was_asked_for(talk: Talk) -> None:
+def test_an_empty_line_gives_up_what_was_asked_for(talk: Prompted) -> None:
     talk.type("change 1", ": ")
     assert talk.type("") == ["Given up. Nothing was changed."]
     assert talk.type("version") == ["The book is at version 7."]
 
 
-def test_a_command_that_is_no_answer_gives_up_the_question(talk: Talk) -> None:
+def test_a_command_that_is_no_answer_gives_up_the_question(talk: Prompted) -> None:
     talk.type("change 1", ": ")
     assert talk.type("strike 2") == [
         "“strike 2” isn't in paragraph 1.",
@@ -443,7 +382,7 @@ def test_a_command_that_is_no_answer_gives_up_the_question(talk: Talk) -> None:
     assert talk.type("list of")[0] == "Paragraph 1: The [list of] is far away."
 
 
-def test_a_table_is_put_into_the_book_from_a_file(talk: Talk, moon: Path) -> None:
+def test_a_table_is_put_into_the_book_from_a_file(talk: Prompted, moon: Path) -> None:
     assert talk.type(f"table own {moon.with_name('plain.utb')}") == [
         "Table own is in the book. No paragraph",
         "  has it yet.",
@@ -451,7 +390,7 @@ def test_a_table_is_put_into_the_book_from_a_file(talk: Talk, moon: Path) -> Non
     ]
 
 
-def test_the_lines_of_a_table_are_asked_for(talk: Talk) -> None:
+def test_the_lines_of_a_table_are_asked_for(talk: Prompted) -> None:
     assert talk.type("request table own 2", "1 of 2: ") == [
         "Now the 2 lines of the table own. Ctrl-C",
         "  gives it up.",
@@ -465,19 +404,19 @@ def test_the_lines_of_a_table_are_asked_for(talk: Talk) -> None:
     ]
 
 
-def test_arrow_keys_never_get_into_a_note(talk: Talk) -> None:
+def test_arrow_keys_never_get_into_a_note(talk: Prompted) -> None:
     talk.keys("request mark 1 0 4 ac\x1b[D")
     talk.keys("b")
     talk.type("\x1b[C\x1b[C")
     assert talk.type("request marks 1")[-1] == "Mark 2, open, on “The”: abc"
 
 
-def test_the_line_before_comes_back(talk: Talk) -> None:
+def test_the_line_before_comes_back(talk: Prompted) -> None:
     talk.type("version")
     assert talk.type("\x1b[A") == ["The book is at version 7."]
 
 
-def test_a_control_character_is_refused(talk: Talk) -> None:
+def test_a_control_character_is_refused(talk: Prompted) -> None:
     assert talk.type("request mark 1 0 3 a\x16\x1bb") == [
         "Character 13 of the line is U+001B",
         "ESCAPE, a control character. Texts and",
@@ -486,14 +425,14 @@ def test_a_control_character_is_refused(talk: Talk) -> None:
     ]
 
 
-def test_a_tab_is_a_character_of_a_note(talk: Talk, moon: Path) -> None:
+def test_a_tab_is_a_character_of_a_note(talk: Prompted, moon: Path) -> None:
     talk.type("mark 1 The a\tb")
     talk.end("quit\r")
     with braildesk.Session(moon) as session:
         assert session.marks_of(1)[-1].note == "a\tb"
 
 
-def test_a_long_line_that_is_pasted_is_kept_whole(talk: Talk, moon: Path) -> None:
+def test_a_long_line_that_is_pasted_is_kept_whole(talk: Prompted, moon: Path) -> None:
     talk.paste("type end en " + "’" * 4_000 + "\r")
     talk.wait_for("The book is at version 8.")
     talk.end("quit\r")
@@ -501,7 +440,7 @@ def test_a_long_line_that_is_pasted_is_kept_whole(talk: Talk, moon: Path) -> Non
         assert session.print_of(4) == "’" * 4_000
 
 
-def test_no_line_of_a_paste_is_cut(talk: Talk) -> None:
+def test_no_line_of_a_paste_is_cut(talk: Prompted) -> None:
     line = "type end en " + "a" * (PASTED_BYTES - 12)
     talk.paste(f"strike 1\r{line}\rstrike 2\r{line}\rversion\r")
     talk.wait_for("The text has 19,988 characters, and may")
@@ -509,11 +448,9 @@ def test_no_line_of_a_paste_is_cut(talk: Talk) -> None:
     talk.wait_for("The book is at version 9.")
 
 
-def test_ctrl_c_gives_up_the_line_and_not_the_talk(talk: Talk) -> None:
-    talk.keys("strike 1")
-    talk.wait_for("strike 1")
-    talk.keys("\x03")
-    talk.wait_for("Given up. Nothing was changed.\r\n> ")
+def test_ctrl_c_gives_up_the_line_and_not_the_talk(talk: Prompted) -> None:
+    talk.shown_keys("strike 1")
+    assert talk.give_up() == ["Given up. Nothing was changed."]
     assert talk.type("version") == ["The book is at version 7."]
 
 
@@ -522,7 +459,7 @@ def test_a_line_that_ctrl_z_interrupts_is_not_cut_and_goes_on_after_it(
 ) -> None:
     settings = environment(PS1="$ ", TERM="xterm-256color", INPUTRC="/dev/null")
     words = ["--norc", "--noprofile", "-i"]
-    shell = pexpect.spawn("bash", words, env=settings, encoding="utf-8", timeout=60)
+    shell = at_terminal("bash", *words, settings=settings)
     shell.expect_exact("$ ")
     shell.sendline(f"'{sys.executable}' -m scribe talk '{moon}'")
     shell.expect_exact("> ")
@@ -538,21 +475,21 @@ def test_a_line_that_ctrl_z_interrupts_is_not_cut_and_goes_on_after_it(
     shell.expect_exact("The book is at version 8.")
     shell.send("quit\r")
     shell.expect_exact("$ ")
-    shell.close()
+    end(shell)
     with braildesk.Session(moon) as session:
         assert (
             session.print_of(4) == "It is " + 2000 * "\N{RIGHT SINGLE QUOTATION MARK}"
         )
 
 
-def test_the_end_of_the_input_ends_the_talk(talk: Talk, moon: Path) -> None:
+def test_the_end_of_the_input_ends_the_talk(talk: Prompted, moon: Path) -> None:
     ran = talk.end("\x04")
     assert ran.status == 0
     assert ran.shown.endswith("The book is at version 7.\r\n")
 
 
 def test_a_lost_session_says_what_was_kept_and_what_was_not_and_talks_on(
-    talk: Talk, moon: Path
+    talk: Prompted, moon: Path
 ) -> None:
     talk.type("strike 1")
     os.kill(talk.program(), signal.SIGKILL)
@@ -568,7 +505,7 @@ def test_a_lost_session_says_what_was_kept_and_what_was_not_and_talks_on(
 
 
 def test_a_line_that_was_not_begun_is_not_taken_for_what_was_changed_last(
-    talk: Talk, moon: Path
+    talk: Prompted, moon: Path
 ) -> None:
     talk.type("strike 1")
     os.kill(talk.program(), signal.SIGKILL)
@@ -584,7 +521,7 @@ def test_a_line_that_was_not_begun_is_not_taken_for_what_was_changed_last(
 
 @pytest.mark.parametrize("kept", [True, False])
 def test_a_talk_whose_book_is_gone_says_no_version_of_it(
-    talk: Talk, moon: Path, kept: bool
+    talk: Prompted, moon: Path, kept: bool
 ) -> None:
     if kept:
         talk.type("strike 1")
@@ -598,7 +535,7 @@ def test_a_talk_whose_book_is_gone_says_no_version_of_it(
 
 
 def test_a_talk_goes_on_where_the_mark_in_hand_is_no_more(
-    talk: Talk, moon: Path, made_once: Path
+    talk: Prompted, moon: Path, made_once: Path
 ) -> None:
     talk.type("next")
     os.kill(talk.program(), signal.SIGKILL)
@@ -613,7 +550,7 @@ def test_a_talk_goes_on_where_the_mark_in_hand_is_no_more(
 
 @pytest.mark.parametrize("is_gone", [True, False])
 def test_what_was_kept_before_the_session_of_a_talk_ended_is_saved_at_its_end(
-    talk: Talk, moon: Path, is_gone: bool
+    talk: Prompted, moon: Path, is_gone: bool
 ) -> None:
     talk.type("strike 1")
     os.kill(talk.program(), signal.SIGKILL)
@@ -624,7 +561,9 @@ def test_what_was_kept_before_the_session_of_a_talk_ended_is_saved_at_its_end(
     assert moon.with_name("moon.braildesk-saved-1").exists() is is_gone
 
 
-def test_a_talk_whose_book_can_not_be_opened_again_ends(talk: Talk, moon: Path) -> None:
+def test_a_talk_whose_book_can_not_be_opened_again_ends(
+    talk: Prompted, moon: Path
+) -> None:
     os.kill(talk.program(), signal.SIGKILL)
     moon.rename(moon.with_name("moved"))
     ran = talk.end("strike 1\r")
@@ -637,7 +576,7 @@ def test_a_talk_whose_terminal_is_closed_ends_without_a_fault(
     moon: Path, typed: str
 ) -> None:
     home = moon.parent / "state"
-    talk = Talk(moon, XDG_STATE_HOME=str(home))
+    talk = talk_about(moon, XDG_STATE_HOME=str(home))
     talk.type("strike 1")
     talk.keys(typed)
     assert talk.hang_up() in (3, -signal.SIGHUP)
@@ -657,7 +596,7 @@ def test_no_line_is_over_the_width_and_nothing_moves_the_cursor(moon: Path) -> N
 
 
 def test_letters_of_all_languages_are_typed_in_any_locale(moon: Path) -> None:
-    talk = Talk(moon, LC_ALL="C")
+    talk = talk_about(moon, LC_ALL="C")
     talk.type("request mark 1 0 4 Zdeňkův ⠍")
     assert talk.type("\x1b[A")[0].endswith("on “The”: Zdeňkův ⠍")
     talk.end("quit\r")
@@ -667,11 +606,11 @@ def test_letters_of_all_languages_are_typed_in_any_locale(moon: Path) -> None:
 
 def test_the_terminal_is_left_as_it_was(moon: Path) -> None:
     line = f"stty -g; '{sys.executable}' -m scribe talk '{moon}'; stty -g"
-    child = pexpect.spawn("sh", ["-c", line], env=environment(), encoding="utf-8")
+    child = at_terminal("sh", "-c", line, settings=environment())
     child.expect_exact("> ")
     before = child.before.split()[0]
     child.send("quit\r")
-    child.expect(pexpect.EOF)
+    at_end(child)
     assert child.before.split()[-1] == before
 
 
@@ -694,14 +633,14 @@ def test_a_talk_that_is_told_to_end_says_so_and_leaves_the_terminal_as_it_was(
     line = (
         f"stty -g; '{sys.executable}' -m scribe talk '{moon}'; echo status $?; stty -g"
     )
-    child = pexpect.spawn("sh", ["-c", line], env=environment(), encoding="utf-8")
+    child = at_terminal("sh", "-c", line, settings=environment())
     child.expect_exact("> ")
     before = child.before.split()[0]
     child.send("strike 1\r")
     child.expect_exact("The book is at version 8.\r\n> ")
     children = Path(f"/proc/{child.pid}/task/{child.pid}/children").read_text()
     os.kill(int(children.split()[0]), signal.Signals[name])
-    child.expect(pexpect.EOF)
+    at_end(child)
     assert f"Stopped by {name}. What was reported as kept is in the book," in (
         child.before
     )

@@ -8,12 +8,12 @@ import re
 import sys
 from pathlib import Path
 
-import pexpect  # type: ignore[import]
 import pytest
 
 from scribe.cli.commands import AT_PROMPT
 from scribe.cli.prompt_words import names
-from tool import environment
+from prompted import without_waiting
+from tool import at_end, at_terminal, environment
 
 SPOKEN = Path(__file__).with_name("spoken")
 #: The prompts: for a line, for an answer, and for an answer where questions are short.
@@ -31,16 +31,15 @@ def test_each_command_says_what_is_written_here(moon: Path, width: int) -> None:
     manuscript = "The Tides\n\nThe moon is far away.\n\nTwice a day the sea comes up.\n"
     (moon.parent / "manuscript.txt").write_text(manuscript)
     words = ["talk", "moon.braildesk", "--width", str(width)]
-    child = pexpect.spawn(
+    child = at_terminal(
         sys.executable,
-        ["-m", "scribe", *words],
-        cwd=moon.parent,
+        "-m",
+        "scribe",
+        *words,
+        folder=moon.parent,
         # a process of its own: in a copy of this one an earlier test may have readline know another
         # terminal
-        env=environment(TERM="dumb", INPUTRC="/dev/null"),
-        encoding="utf-8",
-        timeout=60,
-        dimensions=(24, 200),
+        settings=environment(TERM="dumb", INPUTRC="/dev/null"),
     )
     wanted = texts(width)
     shown = ""
@@ -48,8 +47,9 @@ def test_each_command_says_what_is_written_here(moon: Path, width: int) -> None:
         child.expect(rf"(?:^|\n){re.escape(typed[1])}$")
         shown += child.before + child.after
         child.send(typed[2] + "\r")
-    child.expect(pexpect.EOF)
+    assert at_end(child) == 0
     lines = (shown + child.before).replace("\r", "").splitlines()
+    lines = without_waiting(lines)
     assert lines == wanted
     assert max(map(len, lines)) <= width
     assert "\x1b" not in shown

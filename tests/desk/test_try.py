@@ -1,16 +1,14 @@
 """scribe try, by what a person sees at a terminal."""
 
-import os
-import sys
 import time
 from collections.abc import Iterator
 from pathlib import Path
 
-import pexpect  # type: ignore[import]
 import pytest
 
 from scribe.prompt import typed_lines
-from tool import Ran, environment, is_taken_at_start, scribe, scribe_in_copy
+from prompted import Prompted
+from tool import Ran, put_in_place, scribe
 
 TABLE = """\
 space \\s 0
@@ -37,57 +35,9 @@ def look_often() -> None:
     typed_lines._TICK = _TICK
 
 
-class Trying:
+def try_table(path: Path) -> Prompted:
     """A person at a terminal at which a table is tried."""
-
-    def __init__(self, path: Path, *words: str, **more: str) -> None:
-        spoken = ["try", path.name, *words]
-        settings = environment(TERM="xterm-256color", INPUTRC="/dev/null", **more)
-        begin = None
-        if not is_taken_at_start(more):
-            begin = scribe_in_copy(spoken, settings, look_often)
-        self._child = pexpect.spawn(
-            sys.executable,
-            ["-m", "scribe", *spoken],
-            cwd=str(path.parent),
-            env=settings,
-            preexec_fn=begin,
-            encoding="utf-8",
-            timeout=60,
-            dimensions=(24, 200),
-        )
-        self.greeting = self._answer()
-
-    def type(self, line: str) -> list[str]:
-        """Types a line, and gives the lines that are written before the next prompt."""
-        self._child.send(line + "\r")
-        return self.wait()
-
-    def wait(self) -> list[str]:
-        """The lines that are written before the next prompt."""
-        _, *answer = self._answer()
-        return answer
-
-    def keys(self, keys: str) -> None:
-        """Types keys without the one that ends the line."""
-        self._child.send(keys)
-        self._child.expect_exact(keys)
-
-    def end(self, keys: str) -> Ran:
-        """Types the last keys, and gives how scribe ended and what it wrote."""
-        self._child.send(keys)
-        self._child.expect(pexpect.EOF)
-        self._child.close()
-        assert self._child.exitstatus is not None
-        return Ran(self._child.exitstatus, self._child.before, "")
-
-    def close(self) -> None:
-        self._child.close(force=True)
-
-    def _answer(self) -> list[str]:
-        self._child.expect("(?:^|\n)> ")
-        lines: list[str] = self._child.before.replace("\r", "").split("\n")
-        return lines
+    return Prompted("try", path.name, folder=path.parent, before=look_often)
 
 
 @pytest.fixture
@@ -99,15 +49,15 @@ def own(tmp_path: Path) -> Path:
 
 
 @pytest.fixture
-def trying(own: Path) -> Iterator[Trying]:
+def trying(own: Path) -> Iterator[Prompted]:
     """A person who tries that table."""
-    opened = Trying(own)
+    opened = try_table(own)
     yield opened
     opened.close()
 
 
 def test_print_is_answered_by_braille_and_the_lines_that_made_it(
-    trying: Trying,
+    trying: Prompted,
 ) -> None:
     assert trying.greeting == [
         "own.utb: 12 lines, accepted.",
@@ -124,18 +74,19 @@ def test_print_is_answered_by_braille_and_the_lines_that_made_it(
 
 
 def test_a_file_that_was_saved_is_read_again_by_itself(
-    trying: Trying, own: Path
+    trying: Prompted, own: Path
 ) -> None:
     assert trying.type("the")[0] == "⠮"
+    # an editor may empty a file before it writes it, and what stands there meanwhile may be read
     own.write_text(TABLE.replace("word the 2346", "word the 1-1"))
-    assert trying.wait() == [
+    while (lines := trying.wait())[-1] != "“the” ⠁⠁: line 11, word the 1-1":
+        assert lines[0] == "The file was saved, and is read again."
+    assert lines[:-1] == [
         "The file was saved, and is read again.",
         "own.utb: 12 lines, accepted.",
         "⠁⠁",
-        "“the” ⠁⠁: line 11, word the 1-1",
     ]
-    own.with_name("new").write_text("# mine\n" + TABLE)
-    os.replace(own.with_name("new"), own)
+    put_in_place(own, "# mine\n" + TABLE)
     assert trying.wait() == [
         "The file was saved, and is read again.",
         "own.utb: 13 lines, accepted.",
@@ -145,10 +96,10 @@ def test_a_file_that_was_saved_is_read_again_by_itself(
 
 
 def test_a_file_that_is_saved_while_a_line_is_typed_is_read_with_the_line(
-    trying: Trying, own: Path
+    trying: Prompted, own: Path
 ) -> None:
-    trying.keys("th")
-    own.write_text(TABLE.replace("word the 2346", "word the 1-1"))
+    trying.shown_keys("th")
+    put_in_place(own, TABLE.replace("word the 2346", "word the 1-1"))
     time.sleep(_TICK * _TICKS)
     assert trying.type("e") == [
         "The file was saved, and is read again.",
@@ -158,14 +109,16 @@ def test_a_file_that_is_saved_while_a_line_is_typed_is_read_with_the_line(
     ]
 
 
-def test_a_file_that_is_saved_as_it_was_is_no_matter(trying: Trying, own: Path) -> None:
-    own.write_text(TABLE)
+def test_a_file_that_is_saved_as_it_was_is_no_matter(
+    trying: Prompted, own: Path
+) -> None:
+    put_in_place(own, TABLE)
     time.sleep(_TICK * _TICKS)
     assert trying.type("the")[0] == "⠮"
 
 
-def test_a_fault_is_shown_until_it_is_gone(trying: Trying, own: Path) -> None:
-    own.write_text(TABLE + "always the 9\nalways x 1\n")
+def test_a_fault_is_shown_until_it_is_gone(trying: Prompted, own: Path) -> None:
+    put_in_place(own, TABLE + "always the 9\nalways x 1\n")
     refused = [
         "Line 13: “9” is no cell: a cell is 0, or some of the digits 1 to 8. It reads “always"
         " the 9”.",
@@ -174,21 +127,21 @@ def test_a_fault_is_shown_until_it_is_gone(trying: Trying, own: Path) -> None:
     ]
     assert trying.wait() == ["The file was saved, and is read again.", *refused]
     assert trying.type("the") == refused
-    own.write_text(TABLE)
+    put_in_place(own, TABLE)
     assert trying.wait()[-1] == "“the” ⠮: line 11, word the 2346"
 
 
 def test_a_table_with_a_fault_may_be_corrected_at_the_prompt(own: Path) -> None:
     own.write_text("letter a\n")
-    trying = Trying(own)
+    trying = try_table(own)
     assert trying.greeting[0].startswith("Line 1: An operand is missing.")
-    own.write_text("letter a 1\n")
+    put_in_place(own, "letter a 1\n")
     assert trying.wait()[-1] == "own.utb: 1 line, accepted."
     assert trying.type("a")[-1] == "“a” ⠁: line 1, letter a 1"
     assert trying.end("quit\r").status == 0
 
 
-def test_a_file_that_is_gone_is_said(trying: Trying, own: Path) -> None:
+def test_a_file_that_is_gone_is_said(trying: Prompted, own: Path) -> None:
     own.rename(own.with_name("other"))
     assert trying.type("the") == [
         "There is no file “own.utb”. Check that the path is right."
@@ -197,7 +150,7 @@ def test_a_file_that_is_gone_is_said(trying: Trying, own: Path) -> None:
     assert trying.type("")[0] == "⠮"
 
 
-def test_a_character_that_is_not_defined_is_named(trying: Trying) -> None:
+def test_a_character_that_is_not_defined_is_named(trying: Prompted) -> None:
     assert trying.type("the cat") == [
         "The table “own.utb” has no cells for “c” (U+0063 LATIN SMALL LETTER C), character 5 of"
         " the line: “the cat”. This line was not translated."
@@ -205,25 +158,25 @@ def test_a_character_that_is_not_defined_is_named(trying: Trying) -> None:
     assert trying.end("\x04").status == 2
 
 
-def test_print_is_taken_in_normal_form_c(trying: Trying) -> None:
+def test_print_is_taken_in_normal_form_c(trying: Prompted) -> None:
     assert trying.type("e\u0301")[0] == "⠿"
 
 
-def test_ctrl_c_gives_up_the_line_and_not_the_trial(trying: Trying) -> None:
-    trying.keys("the")
-    assert trying.type("\x03")[-1] == "Given up."
+def test_ctrl_c_gives_up_the_line_and_not_the_trial(trying: Prompted) -> None:
+    trying.shown_keys("the")
+    assert trying.give_up() == ["Given up."]
     assert trying.type("a")[0] == "⠁"
 
 
-def test_the_line_before_comes_back(trying: Trying) -> None:
+def test_the_line_before_comes_back(trying: Prompted) -> None:
     trying.type("the")
     trying.type("a")
     assert trying.type("\x1b[A\x1b[A")[0] == "⠮"
 
 
-def test_quit_and_the_end_of_the_input_end_it(trying: Trying, own: Path) -> None:
+def test_quit_and_the_end_of_the_input_end_it(trying: Prompted, own: Path) -> None:
     assert trying.end("quit\r").status == 0
-    assert Trying(own).end("\x04").status == 0
+    assert try_table(own).end("\x04").status == 0
 
 
 def test_lines_come_from_a_pipe_too(own: Path) -> None:

@@ -14,7 +14,8 @@ from scribe.cli import run_words
 from scribe.screen.actions import ImportFrom
 from scribe.screen.background import done_in_background
 from scribe.words.console import Console
-from terminal import WAIT_SECONDS, Open, Terminal, once_free
+from terminal import Open, Terminal, once_free
+from tool import WAIT_SECONDS
 
 WAITING = "Waiting for braildesk to answer."
 
@@ -80,9 +81,7 @@ def test_the_screen_says_that_it_waits_and_keeps_the_keys(moon: Path, at: Open) 
     # Ctrl-C is a key here that does nothing
     terminal.send("\x03")
     terminal.keys("down", "enter")
-    for letter in "No, ":
-        terminal.send(letter)
-        time.sleep(0.06)
+    terminal.type_on("No, ")
     os.kill(program, signal.SIGCONT)
     lines = terminal.wait("No, Twice a day the sea comes up.")
     assert WAITING not in " ".join(lines)
@@ -102,8 +101,6 @@ def test_a_screen_that_is_made_smaller_says_that_it_waits_and_takes_escape_as_th
     terminal.resize(70, 20)
     terminal.wait(WAITING)
     terminal.send("\x1b")
-    # it comes to the other end of the terminal a moment later
-    time.sleep(0.2)
     terminal.await_read()
     os.kill(program, signal.SIGCONT)
     terminal.wait("Given up. The book is as it was.")
@@ -131,10 +128,8 @@ def test_a_signal_ends_the_screen_while_it_waits_and_what_is_typed_is_kept(
 
 def end(terminal: Terminal, is_closed: bool) -> None:
     """Closes the terminal of a scribe that waits, once it has read the keys, or tells it to end."""
+    terminal.await_read()
     if is_closed:
-        # the keys come to the other end of the terminal a moment later
-        time.sleep(0.2)
-        terminal.await_read()
         terminal.hang_up()
         assert terminal.left() == 3
     else:
@@ -188,6 +183,14 @@ def test_what_is_typed_for_a_new_paragraph_while_the_screen_waits_is_set_aside(
     once_free(moon).close()
 
 
+def await_kept(drafts: Drafts, text: str) -> None:
+    """Waits until a text that came while the screen waits is kept."""
+    end_at = time.monotonic() + WAIT_SECONDS
+    while (kept := drafts.unread()) is None or text not in kept.text_of_all:
+        assert time.monotonic() < end_at, kept
+        time.sleep(0.05)
+
+
 def killed_while_waiting(moon: Path, at: Open, typed_on: str, *keys: str) -> None:
     """Presses keys of which the last is not answered, types on, and kills scribe once that is kept."""
     terminal = at(moon)
@@ -201,12 +204,7 @@ def killed_while_waiting(moon: Path, at: Open, typed_on: str, *keys: str) -> Non
         terminal.keys(last)
         terminal.wait(WAITING)
         terminal.send(typed_on)
-        drafts, end_at = Drafts(moon), time.monotonic() + WAIT_SECONDS
-        while (kept := drafts.unread()) is None or typed_on.strip() not in "\r".join(
-            kept.text_of_all.split("\n")
-        ):
-            assert time.monotonic() < end_at, kept
-            time.sleep(0.05)
+        await_kept(Drafts(moon), typed_on.strip().replace("\r", "\n"))
         terminal.send_signal(signal.SIGKILL)
         terminal.left()
     finally:
@@ -262,12 +260,9 @@ def test_what_came_while_the_screen_waited_is_kept_no_more_once_it_is_taken_in(
     os.kill(program, signal.SIGSTOP)
     terminal.keys("enter")
     terminal.wait(WAITING)
-    for letter in "It set.":
-        terminal.send(letter)
-        time.sleep(0.06)
+    terminal.type_on("It set.")
     drafts = Drafts(moon)
-    while (kept := drafts.unread()) is None or kept.lines != "It set.":
-        time.sleep(0.05)
+    await_kept(drafts, "It set.")
     os.kill(program, signal.SIGCONT)
     terminal.wait("It set.")
     terminal.keys("enter")
@@ -331,9 +326,7 @@ def test_what_is_said_after_the_waiting_is_not_taken_away_by_keys_that_came_befo
     os.kill(program, signal.SIGSTOP)
     terminal.keys("enter")
     terminal.wait(WAITING)
-    for letter in "It set.":
-        terminal.send(letter)
-        time.sleep(0.06)
+    terminal.type_on("It set.")
     terminal.await_read()
     os.kill(program, signal.SIGKILL)
     terminal.wait("It rose. It set.")
@@ -341,8 +334,7 @@ def test_what_is_said_after_the_waiting_is_not_taken_away_by_keys_that_came_befo
     terminal.wait("The session was ended by signal 9.")
     # the next key takes it away
     terminal.keys("left")
-    terminal.settle()
-    assert "was ended" not in " ".join(terminal.lines)
+    terminal.wait_gone("was ended")
 
 
 def test_what_is_typed_on_while_enter_fails_is_another_line(
@@ -356,12 +348,9 @@ def test_what_is_typed_on_while_enter_fails_is_another_line(
     os.kill(program, signal.SIGSTOP)
     terminal.keys("enter")
     terminal.wait(WAITING)
-    for letter in "It set.":
-        terminal.send(letter)
-        time.sleep(0.06)
+    terminal.type_on("It set.")
     drafts = Drafts(moon)
-    while (kept := drafts.unread()) is None or kept.lines != "It set.":
-        time.sleep(0.05)
+    await_kept(drafts, "It set.")
     os.kill(program, signal.SIGKILL)
     terminal.wait("Are they 2 paragraphs?")
     terminal.keys("enter")

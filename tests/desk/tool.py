@@ -1,4 +1,8 @@
-"""Runs scribe as a person does: its words, what it shows, what it says, and its status."""
+"""Runs scribe as a person does: its words, what it shows, what it says, and its status.
+
+A machine on which the tests run may have other work, so a state is waited for, and nothing is taken
+to be done after some time.
+"""
 
 import gc
 import os
@@ -11,7 +15,9 @@ from collections.abc import Callable, Mapping, Sequence
 from dataclasses import dataclass
 from importlib import import_module
 from pathlib import Path
-from typing import TextIO
+from typing import Any, TextIO
+
+import pexpect  # type: ignore[import]
 
 from scribe.cli import main
 from scribe.words import encoding
@@ -20,6 +26,8 @@ from scribe.words import encoding
 import_module("scribe.screen.terminal")
 
 ROOT = Path(__file__).resolve().parents[2]
+#: How long a state is waited for: only where it never comes.
+WAIT_SECONDS = 120
 # what Python takes from the environment as it is started, and not later
 _TAKEN_AT_START = ("LC_", "LANG", "PYTHON")
 
@@ -107,6 +115,57 @@ def scribe_in_copy(
             os._exit(status)
 
     return become
+
+
+def at_terminal(
+    program: str,
+    *words: str | Path,
+    settings: Mapping[str, str],
+    folder: Path | None = None,
+    begin: Callable[[], None] | None = None,
+    size: tuple[int, int] = (24, 200),
+    encoding: str | None = "utf-8",
+) -> Any:
+    """A program at a terminal of so many lines and columns."""
+    child = pexpect.spawn(
+        program,
+        [*map(str, words)],
+        cwd=folder and str(folder),
+        env=settings,
+        preexec_fn=begin,
+        encoding=encoding,
+        # a line that is longer than the terminal may be drawn from the middle of a character on
+        codec_errors="replace",
+        timeout=WAIT_SECONDS,
+        dimensions=size,
+    )
+    # keys are sent once they are waited for, and need no pause
+    child.delaybeforesend = None
+    child.ptyproc.delayafterclose = 0
+    return child
+
+
+def at_end(child: Any) -> int:
+    """The status with which a program at a terminal ends by itself, or its signal with a minus."""
+    child.expect(pexpect.EOF)
+    child.wait()
+    child.close()
+    return int(child.exitstatus if child.signalstatus is None else -child.signalstatus)
+
+
+def end(child: Any) -> None:
+    """Ends a program at a terminal, if it hasn't ended yet, and waits for it however long it takes."""
+    if not child.ptyproc.terminated:
+        os.kill(child.pid, signal.SIGKILL)
+        child.wait()
+    child.close()
+
+
+def put_in_place(path: Path, text: str) -> None:
+    """Puts a text in place of that of a file, so that who reads the file finds one of them whole."""
+    beside = path.with_name(f"{path.name}-new")
+    beside.write_text(text, encoding="utf-8")
+    beside.replace(path)
 
 
 def _stream(number: int) -> TextIO | None:

@@ -1,0 +1,106 @@
+"""Somebody at a terminal at which scribe asks for lines, as talk and try do."""
+
+import os
+import re
+import sys
+import threading
+from collections.abc import Callable
+from pathlib import Path
+
+from scribe.words.console import WAITING
+from tool import (
+    Ran,
+    at_end,
+    at_terminal,
+    end,
+    environment,
+    is_taken_at_start,
+    scribe_in_copy,
+)
+
+
+class Prompted:
+    """Somebody at a terminal at which scribe asks for lines, and what it answers."""
+
+    def __init__(
+        self,
+        *words: str,
+        folder: Path,
+        before: Callable[[], object] | None = None,
+        **more: str,
+    ) -> None:
+        settings = environment(TERM="xterm-256color", INPUTRC="/dev/null", **more)
+        is_new = is_taken_at_start(more)
+        self._child = at_terminal(
+            sys.executable,
+            "-m",
+            "scribe",
+            *words,
+            settings=settings,
+            folder=folder,
+            begin=None if is_new else scribe_in_copy(words, settings, before),
+        )
+        self.greeting = self._answer("> ")
+
+    def type(self, line: str, prompt: str = "> ") -> list[str]:
+        """Types a line, and gives the lines that are written before the next prompt."""
+        self._child.send(line + "\r")
+        return self.wait(prompt)
+
+    def wait(self, prompt: str = "> ") -> list[str]:
+        """The lines that are written before the next prompt, but for that of the last one."""
+        _, *answer = self._answer(prompt)
+        return answer
+
+    def keys(self, keys: str) -> None:
+        """Types keys without the one that ends the line."""
+        self._child.send(keys)
+
+    def shown_keys(self, keys: str) -> None:
+        """Types characters, and waits until they are shown."""
+        self._child.send(keys)
+        self._child.expect_exact(keys)
+
+    def give_up(self) -> list[str]:
+        """Gives up the line by Ctrl-C, and gives what is said to it."""
+        self._child.send("\x03")
+        return self.wait()
+
+    def paste(self, text: str) -> None:
+        """Pastes a text, which goes on while what is written is read."""
+        threading.Thread(target=self._child.send, args=(text,), daemon=True).start()
+
+    def wait_for(self, text: str) -> None:
+        """Waits until a text is written."""
+        self._child.expect_exact(text)
+
+    def end(self, line: str) -> Ran:
+        """Types the last line, and gives how scribe ended and what it wrote."""
+        self._child.send(line)
+        status = at_end(self._child)
+        return Ran(status, self._child.before, "")
+
+    def program(self) -> int:
+        """The process of the session that scribe talks to."""
+        children = Path(f"/proc/{self._child.pid}/task/{self._child.pid}/children")
+        return int(children.read_text().split()[0])
+
+    def hang_up(self) -> int:
+        """Closes the terminal, as its window does, and gives how scribe ended."""
+        self._child.ptyproc.fileobj.close()
+        status = os.waitpid(self._child.pid, 0)[1]
+        self._child.ptyproc.terminated = True
+        return os.waitstatus_to_exitcode(status)
+
+    def close(self) -> None:
+        """Ends scribe, where it hasn't ended yet."""
+        end(self._child)
+
+    def _answer(self, prompt: str) -> list[str]:
+        self._child.expect(rf"(?:^|\n){re.escape(prompt)}")
+        return without_waiting(self._child.before.replace("\r", "").split("\n"))
+
+
+def without_waiting(lines: list[str]) -> list[str]:
+    """Lines but for that which is said where a machine has so much other work that scribe waits."""
+    return [line for line in lines if line != WAITING]
