@@ -7,6 +7,8 @@ from pathlib import Path
 
 import pytest
 
+from tool import WAIT_SECONDS
+
 # the numbers of nobody and nogroup, as on Debian
 STRANGER = 65_534
 NEEDS_ROOT = pytest.mark.skipif(
@@ -16,7 +18,7 @@ NEEDS_ROOT = pytest.mark.skipif(
 
 def in_time() -> None:
     """Has this process end where it would wait for ever."""
-    signal.alarm(50)
+    signal.alarm(WAIT_SECONDS)
 
 
 def become_stranger() -> None:

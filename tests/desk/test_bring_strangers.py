@@ -23,7 +23,7 @@ from strangers import NEEDS_ROOT, STRANGER
 from tool import environment, scribe
 
 # far less than a table of this kind takes that nothing stops
-SECONDS = 40
+SECONDS = 120
 BRINGS = """
 import sys
 from pathlib import Path
@@ -163,11 +163,12 @@ def test_no_process_is_left_where_the_reading_of_a_table_is_broken_off(
     def breaks_off(stream: object, seconds: float) -> bytes:
         raise cause
 
-    before = children(os.getpid())
+    before = {*children(os.getpid())}
     monkeypatch.setattr(oracle._Process, "_lines", breaks_off)
     with pytest.raises(cause):
         Liblouis(tmp_path / "any.utb")
-    assert children(os.getpid()) == before
+    # of those before, some may end meanwhile
+    assert before.issuperset(children(os.getpid()))
 
 
 def test_what_asks_liblouis_takes_no_module_of_the_folder_it_is_started_in(

@@ -45,6 +45,7 @@ from braildesk.snapshot import snapshot
 from braildesk.workshop import mode_of
 
 from strangers import NEEDS_ROOT, as_stranger
+from tool import WAIT_SECONDS
 
 ROOT = Path(__file__).parents[2]
 #: The number of an entry that names no user and no group.
@@ -1166,7 +1167,7 @@ def test_a_view_that_never_ends_is_not_read_for_a_table(
     before = names(tmp_path)
     with trying(deed, book, tmp_path / "copied") as process:
         try:
-            assert process.communicate(timeout=60)[0] == f"{refused}\n"
+            assert process.communicate(timeout=WAIT_SECONDS)[0] == f"{refused}\n"
         finally:
             process.kill()
     assert names(tmp_path) == before
@@ -1223,7 +1224,7 @@ def test_a_program_that_never_answers_is_left_by_ctrl_c(
                 time.sleep(0.01)
             (program,) = found
             process.send_signal(signal.SIGINT)
-            process.wait(timeout=60)
+            process.wait(timeout=WAIT_SECONDS)
             assert not noted(program)
         finally:
             process.kill()

@@ -36,7 +36,8 @@ from braildesk.pipe import Ending, Pipe
 from braildesk.protocol.replies import Reader, Reply, Unreadable
 from braildesk.session import session_beside
 from stand_in import KEPT, KILL_PROGRAM, READ, REPLY, WAIT
-from terminal import standing_in
+from terminal import once_free, standing_in
+from tool import WAIT_SECONDS
 
 PYTHON = str(Path(__file__).parents[2] / "src")
 
@@ -217,7 +218,7 @@ def test_a_session_that_is_left_open_is_warned_of(book: Path) -> None:
         del session
         gc.collect()
     # the program ends by that, and the book can be opened
-    with Session(book, timeout=20) as session:
+    with Session(book, timeout=WAIT_SECONDS) as session:
         session.version()
     with warnings.catch_warnings(record=True) as caught:
         del session
@@ -340,14 +341,21 @@ def test_who_waits_for_an_answer_is_called_each_second(
     book: Path, script: Callable[[str], Path]
 ) -> None:
     calls: list[float] = []
-    program = script("sleep 2; read line; echo end 3; read line; sleep 2; echo end 3")
+    # what is there once somebody is called while the book is opened, and while something is asked
+    called = [book.with_name("opening"), book.with_name("asking")]
+
+    def call() -> None:
+        calls.append(time.monotonic())
+        called[0].touch()
+
+    answer = "read line; until [ -e '{}' ]; do sleep 0.01; done; echo end 3\n"
+    program = script("".join(map(answer.format, called)))
     started = time.monotonic()
-    with Session(
-        book, program, while_waiting=lambda: calls.append(time.monotonic())
-    ) as session:
+    with Session(book, program, while_waiting=call) as session:
+        del called[0]
         opened = len(calls)
         assert session.version() == 3
-    assert (1, 2) <= (opened, len(calls)) and len(calls) <= time.monotonic() - started
+    assert 1 <= opened < len(calls) <= time.monotonic() - started
     assert calls[0] - started >= 1
 
 
@@ -365,7 +373,7 @@ def test_a_program_that_does_not_answer_is_ended_soon_after_ctrl_c(
             if is_many:
                 list(session.each([requests.Supply("en")] * 2_000))
             session.strike(1)
-    assert time.monotonic() - started < 20
+    assert time.monotonic() - started < WAIT_SECONDS
     (note,) = caught.value.__notes__
     assert note.startswith(
         "braildesk didn't answer any more, and was ended. No command of this session was reported"
@@ -379,14 +387,14 @@ def test_a_program_that_does_not_answer_is_ended_soon_after_ctrl_c(
 def test_a_program_that_answers_something_else_is_ended(
     book: Path, script: Callable[[str], Path]
 ) -> None:
-    program = script("read line; echo end 3; read line; echo hello; sleep 60")
+    program = script("read line; echo end 3; read line; echo hello; exec sleep 600")
     started = time.monotonic()
     with Session(book, program) as session:
         with pytest.raises(SessionEnded) as caught:
             session.version()
         with pytest.raises(SessionEnded):
             session.version()
-    assert time.monotonic() - started < 30
+    assert time.monotonic() - started < WAIT_SECONDS
     assert caught.value.sentence == (
         "This is no line of a reply of braildesk: b'hello'. Nothing was changed by this session."
     )
@@ -491,15 +499,7 @@ def test_a_killed_client_leaves_no_request_cut(book: Path) -> None:
                 break
         running.kill()
         last = [int(line) for line in running.stdout.read().split()[-2:-1]]
-    deadline = time.monotonic() + 60
-    while time.monotonic() < deadline:
-        try:
-            session = Session(book)
-            break
-        except Refused as refusal:
-            assert refusal.code == 98
-            time.sleep(0.2)
-    with session:
+    with once_free(book) as session:
         prints = list(session.each(requests.Print(p.id) for p in session.paragraphs()))
     assert len(prints) >= max([50, *last])
     assert prints == [
@@ -612,11 +612,13 @@ def interrupted_at(step: int, book: Path) -> bool:
 def test_an_interrupt_at_each_seventh_step_of_the_client_leaves_a_whole_book(
     book: Path,
 ) -> None:
-    signal.alarm(300)  # a client that waits for ever is ended, and the test with it
+    # at each step a client that waits for ever is ended, and the test with it
+    signal.alarm(WAIT_SECONDS)
     try:
         step = 1
         while interrupted_at(step, shutil.copyfile(book, book.with_name(f"{step}"))):
             step += 7
+            signal.alarm(WAIT_SECONDS)
         assert step > 100
     finally:
         signal.alarm(0)
@@ -1088,7 +1090,9 @@ def test_a_copy_that_can_not_be_opened_for_a_cause_that_is_not_seen_is_taken_for
     assert doubtful.print_of(3) == "Three."
 
 
-def test_a_program_at_its_end_uses_a_book_no_further(book: Path, program: str) -> None:
+def test_a_program_at_its_end_uses_a_book_no_further(
+    book: Path, program: str, monkeypatch: pytest.MonkeyPatch
+) -> None:
     file = openfile.OpenFile(str(book))
     with Session(book):
         assert file.is_used_further
@@ -1102,6 +1106,8 @@ def test_a_program_at_its_end_uses_a_book_no_further(book: Path, program: str) -
         process.stdin.flush()
         assert process.stdout.readline() == b"end 1\n"
         assert file.is_used
+        # a busy machine may take longer than one that isn't
+        monkeypatch.setattr(openfile, "_LEAVING", WAIT_SECONDS)
         threading.Timer(0.1, process.stdin.close).start()
         assert not file.is_used_further
     file.close()
@@ -1378,7 +1384,7 @@ def test_what_another_session_kept_after_the_program_ended_is_no_other_book(
     session = Session(book, script(outlived.format(noted)))
     session.guard()
     os.kill(int(number.read_text()), signal.SIGKILL)
-    with Session(book, timeout=60) as another:
+    with Session(book, timeout=WAIT_SECONDS) as another:
         another.add_paragraph("end", "en", "Two.")
     with pytest.raises(SessionEnded):
         go_on(session)

@@ -794,7 +794,7 @@ def test_a_kept_rule_that_no_word_bears_out_is_left_out(tmp_path: Path) -> None:
 STOPS = """\
 #!/bin/sh
 echo >> "$CALLS"
-if [ "$(wc -l < "$CALLS")" = "$STOP" ]; then kill -INT $PPID; sleep 20; fi
+if [ "$(wc -l < "$CALLS")" = "$STOP" ]; then kill -INT $PPID; exec sleep 120; fi
 exec "$REAL" "$@"
 """
 

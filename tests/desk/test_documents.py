@@ -58,7 +58,7 @@ from handmade import (
     table,
     text_box,
 )
-from tool import environment
+from tool import WAIT_SECONDS, environment
 
 MARKDOWN = """\
 # The Moon
@@ -1379,9 +1379,9 @@ def test_what_reads_a_document_ends_with_the_one_that_started_it(
     number = tmp_path / "number"
     program(programs, "pandoc", f"echo $$ > {number}.new", f"mv {number}.new {number}")
     with (programs / "pandoc").open("a") as script:
-        script.write("exec sleep 60\n")
+        script.write(f"exec sleep {WAIT_SECONDS}\n")
     starter = subprocess.Popen([sys.executable, "-c", READS], env=environment())
-    end = time.monotonic() + 40
+    end = time.monotonic() + WAIT_SECONDS
     while not number.exists() and time.monotonic() < end:
         time.sleep(0.02)
     running = Path("/proc", number.read_text().strip())

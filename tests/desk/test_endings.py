@@ -17,7 +17,7 @@ from braildesk import Session, SessionEnded
 
 from scribe.cli import make_parser
 from scribe.cli.commands import may_change
-from tool import ROOT, Ran, environment, scribe
+from tool import ROOT, WAIT_SECONDS, Ran, environment, scribe
 from words import GIVEN, LOOKING, WORDS
 
 IN_THE_BOOK = "What was reported as kept is in the book, and what was asked after that may be there too."
@@ -272,7 +272,7 @@ sys.exit(ended(run, lambda: False))
 """
 
 
-@pytest.mark.parametrize("wait", [0, 20])
+@pytest.mark.parametrize("wait", [0, WAIT_SECONDS])
 @pytest.mark.parametrize("number", STOPPING)
 def test_a_signal_that_comes_where_python_drops_exceptions_ends_scribe_too(
     number: signal.Signals, wait: int
@@ -311,7 +311,7 @@ def run():
     with lines._asking(lambda: False):
         if not {before}:
             drop()
-    select.select([], [], [], 20)
+    select.select([], [], [], {wait})
     return 0
 
 sys.exit(ended(run, lambda: False))
@@ -321,7 +321,11 @@ sys.exit(ended(run, lambda: False))
 @pytest.mark.parametrize("before", [True, False])
 def test_a_dropped_signal_comes_again_where_lines_are_typed(before: bool) -> None:
     done = subprocess.run(
-        [sys.executable, "-c", DROPPED_AT_LINES.format(before=before)],
+        [
+            sys.executable,
+            "-c",
+            DROPPED_AT_LINES.format(before=before, wait=WAIT_SECONDS),
+        ],
         env=environment(),
         capture_output=True,
         text=True,
@@ -467,7 +471,7 @@ def test_input_that_can_not_be_read_ends_each_command_that_reads_it(
                 stdin=unreadable,
                 stderr=subprocess.PIPE,
                 stdout=subprocess.PIPE,
-                timeout=60,
+                timeout=WAIT_SECONDS,
             )
         assert (name, done.returncode) == (name, 3)
         assert done.stderr.decode().endswith(

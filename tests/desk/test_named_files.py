@@ -22,7 +22,7 @@ from braildesk.tables import text_at
 from scribe.cli import run_words
 from scribe.words.console import Console
 from strangers import NEEDS_ROOT, in_time
-from tool import Ran, environment, scribe
+from tool import WAIT_SECONDS, Ran, environment, scribe
 
 PIPE = "it is a pipe and no file"
 
@@ -264,7 +264,7 @@ def test_what_the_shell_hands_over_is_imported(book: Path) -> None:
             cwd=book.parent,
             env=environment(),
             capture_output=True,
-            timeout=50,
+            timeout=WAIT_SECONDS,
             check=True,
         )
         assert done.stdout.startswith(b"1 paragraph typed, number ")
@@ -280,7 +280,7 @@ def test_requests_from_a_device_without_an_end_are_given_up(moon: Path) -> None:
             env=environment(),
             stdin=endless,
             capture_output=True,
-            timeout=50,
+            timeout=WAIT_SECONDS,
         )
     assert (done.returncode, done.stdout) == (3, b"")
     assert done.stderr.decode() == (
@@ -297,7 +297,7 @@ def alarm() -> Iterator[None]:
         pytest.fail("it was waited for")
 
     before = signal.signal(signal.SIGALRM, late)
-    signal.alarm(20)
+    signal.alarm(WAIT_SECONDS)
     yield
     signal.alarm(0)
     signal.signal(signal.SIGALRM, before)

@@ -16,6 +16,7 @@ from braildesk.desk.own_folder import MOST_BYTES
 from scribe.screen.state import Pane
 from sitting import Sat, Sit
 from terminal import Open, once_free
+from tool import WAIT_SECONDS
 
 OPENED_THERE = "The book is open where it was left. ? shows the keys."
 
@@ -165,10 +166,10 @@ def test_a_book_opens_where_it_rested_before_scribe_was_killed(
     terminal.wait("? shows the keys.")
     terminal.keys("down", "right", "z")
     terminal.wait("Now without the list, and without")
-    end = time.monotonic() + 20
+    end = time.monotonic() + WAIT_SECONDS
     while Drafts(moon).left_at() != LeftAt(2, 1, is_quiet=True):
         assert time.monotonic() < end
-        time.sleep(0.1)
+        time.sleep(0.01)
     terminal.send_signal(signal.SIGKILL)
     assert terminal.ended() == -signal.SIGKILL
     once_free(moon).close()

@@ -6,7 +6,7 @@ from pathlib import Path
 
 import braildesk
 from terminal import Open
-from tool import ROOT, environment, scribe
+from tool import ROOT, WAIT_SECONDS, environment, scribe
 
 README = (ROOT / "README.md").read_text(encoding="utf-8")
 #: What the commands show there, and the picture of the screen.
@@ -61,7 +61,7 @@ def test_the_screen_of_the_transcribers_page_is_what_its_steps_make(
         env=environment(),
         capture_output=True,
         check=True,
-        timeout=120,
+        timeout=WAIT_SECONDS,
     )
     terminal = at(tmp_path / "moon.braildesk", 72, len(picture))
     terminal.wait("Paragraph 1, heading")

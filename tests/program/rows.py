@@ -20,7 +20,7 @@ from typing import Any, Optional
 
 from plain.session import Session
 
-MOST_SECONDS = 20
+MOST_SECONDS = 120
 
 SIGNS = {"¶": b"\n", "←": b"\r", "␌": b"\f", "~": b"\xff"}
 
