@@ -7,8 +7,11 @@ import threading
 from collections.abc import Callable
 from pathlib import Path
 
+from braildesk import pipe
+
 from scribe.words.console import WAITING
 from tool import (
+    WAIT_SECONDS,
     Ran,
     at_end,
     at_terminal,
@@ -29,6 +32,12 @@ class Prompted:
         before: Callable[[], object] | None = None,
         **more: str,
     ) -> None:
+        def begin() -> None:
+            # it isn't said that the program is waited for, as it is on a busy machine
+            pipe._LONG = 1_000 * WAIT_SECONDS
+            if before is not None:
+                before()
+
         settings = environment(TERM="xterm-256color", INPUTRC="/dev/null", **more)
         is_new = is_taken_at_start(more)
         self._child = at_terminal(
@@ -38,7 +47,7 @@ class Prompted:
             *words,
             settings=settings,
             folder=folder,
-            begin=None if is_new else scribe_in_copy(words, settings, before),
+            begin=None if is_new else scribe_in_copy(words, settings, begin),
         )
         self.greeting = self._answer("> ")
 
@@ -102,5 +111,5 @@ class Prompted:
 
 
 def without_waiting(lines: list[str]) -> list[str]:
-    """Lines but for that which is said where a machine has so much other work that scribe waits."""
+    """Lines but for that which is said where a machine has other work, and scribe waits."""
     return [line for line in lines if line != WAITING]

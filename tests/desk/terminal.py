@@ -16,11 +16,10 @@ import pyte  # type: ignore[import]
 from prompt_toolkit.input.posix_utils import PosixStdinReader
 
 import braildesk
-from braildesk import CannotOpen, Session
+from braildesk import CannotOpen, Session, pipe
 from braildesk.protocol.sentences import Why
 
 from scribe.screen.terminal import Screen
-from scribe.words.console import WAITING
 from tool import (
     WAIT_SECONDS,
     at_terminal,
@@ -109,6 +108,10 @@ class Progress:
 class Terminal:
     """A terminal with scribe in it, and what its screen shows."""
 
+    #: After how many milliseconds scribe, in a copy of this process, says that it waits for the
+    #: program, and ends without it where it is told to.
+    long = 1_000 * WAIT_SECONDS
+
     def __init__(self, book: Path, columns: int, lines: int, **more: str) -> None:
         # what scribe leaves where it is killed goes with the book
         beside = str(book.parent)
@@ -152,9 +155,8 @@ class Terminal:
 
     @property
     def said(self) -> str:
-        """What scribe has written on standard error, but for what it says on a slow machine alone."""
-        said = self._errors.read_text(encoding="utf-8")
-        return said.replace(f"{WAITING}\n", "")
+        """What scribe has written on standard error."""
+        return self._errors.read_text(encoding="utf-8")
 
     def keys(self, *names: str) -> None:
         """Presses keys, each by its name or its character; more characters are one text.
@@ -328,13 +330,10 @@ class Terminal:
             os.close(end)
 
     def left(self) -> int:
-        """The status with which scribe ends where its terminal is closed.
-
-        It may end by the signal too, where a busy machine has it wait for the program by then.
-        """
+        """The status with which scribe ends where its terminal is closed."""
         status = os.waitstatus_to_exitcode(os.waitpid(self._child.pid, 0)[1])
         self._child.ptyproc.terminated = True
-        return 3 if status == -signal.SIGHUP else status
+        return status
 
     def ended(self) -> int:
         """The status with which scribe ends by itself, or the signal with a minus before it."""
@@ -357,6 +356,7 @@ class Terminal:
 
     def _begin(self) -> None:
         begin_errors()
+        pipe._LONG = self.long
         self._progress.follow()
 
     def _read(self, seconds: float = 0.5) -> bool:

@@ -37,8 +37,8 @@ from braildesk.text.spans import find_spans
 from braildesk.text.wrapping import wrap
 from scribe.words.find import word_lines
 
-# far more than the least that is wanted takes on a slow machine, and far less than its square
-SECONDS = 5
+# of a processor: far more than what is wanted takes on a busy machine, and far less than its square
+SECONDS = 20
 
 
 def test_each_character_that_a_table_lacks_is_found_in_one_walk_along_its_line() -> (

@@ -13,6 +13,7 @@ import braildesk
 from scribe.cli.commands import AT_PROMPT
 from scribe.words.typed import InvalidInput, words_of
 from prompted import Prompted
+from terminal import once_free
 from tool import at_end, at_terminal, end, environment, scribe
 
 #: Longer than what a terminal that collects lines gives to a program.
@@ -581,7 +582,7 @@ def test_a_talk_whose_terminal_is_closed_ends_without_a_fault(
     talk.keys(typed)
     assert talk.hang_up() in (3, -signal.SIGHUP)
     assert not list(home.rglob("fault.txt"))
-    with braildesk.Session(moon) as session:
+    with once_free(moon) as session:
         assert session.last_version == 8
 
 
