@@ -19,6 +19,7 @@ from scribe.screen.desk import Desk
 from scribe.screen.state import Size
 from sitting import Sat, Sit
 from terminal import Open, Terminal
+from tool import WAIT_SECONDS
 
 # What the tests start is ended by signals, also if what runs the tests ignores them, as a shell does
 # with SIGINT in the background, and nohup with SIGHUP.
@@ -183,6 +184,12 @@ def at() -> Iterator[Open]:
     yield opened
     for terminal in terminals:
         terminal.close()
+
+
+@pytest.fixture
+def patient(monkeypatch: pytest.MonkeyPatch) -> None:
+    """Has scribe wait for the end of the program where it ends, also on a busy machine."""
+    monkeypatch.setattr(Terminal, "long", 1_000 * WAIT_SECONDS)
 
 
 @pytest.fixture

@@ -109,8 +109,8 @@ class Terminal:
     """A terminal with scribe in it, and what its screen shows."""
 
     #: After how many milliseconds scribe, in a copy of this process, says that it waits for the
-    #: program, and ends without it where it is told to.
-    long = 1_000 * WAIT_SECONDS
+    #: program, and ends without it where it is told to end.
+    long = pipe._LONG
 
     def __init__(self, book: Path, columns: int, lines: int, **more: str) -> None:
         # what scribe leaves where it is killed goes with the book

@@ -261,8 +261,9 @@ def test_an_import_of_the_screen_ends_at_a_signal_and_says_what_is_in_the_book(
     queue.write_bytes(b"")
     assert terminal.ended() == -signal.Signals[name]
     by = "" if name == "SIGINT" else f" by {name}"
-    # a slow machine says before it how far the import has come
-    said = re.sub("(?m)^[0-9,]+ of [0-9,]+ .*\n", "", terminal.said)
+    # a slow machine says before it how far the import has come, and what it waits for
+    slowly = "[0-9,]+ of [0-9,]+ .*|Waiting for braildesk to answer\\."
+    said = re.sub(f"(?m)^({slowly})\n", "", terminal.said)
     assert said.startswith(f"Stopped{by}.\n")
     # in lines of the terminal's width
     said = " ".join(said.split())

@@ -8,7 +8,6 @@ from pathlib import Path
 
 import pytest
 
-from braildesk import pipe
 from braildesk.desk.drafts import Drafts
 
 from scribe.cli import run_words
@@ -26,12 +25,6 @@ class Followed(StringIO):
 
     def isatty(self) -> bool:
         return True
-
-
-@pytest.fixture(autouse=True)
-def soon(monkeypatch: pytest.MonkeyPatch) -> None:
-    """Has scribe say at a terminal that it waits as soon as it does for a person."""
-    monkeypatch.setattr(Terminal, "long", pipe._LONG)
 
 
 @pytest.fixture
