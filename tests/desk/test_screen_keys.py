@@ -665,6 +665,9 @@ LEFT_OUT = "The end of the pasted line was left out. Enter ends what is typed."
         ("The ", "old|", "moon.", "The old moon.", AS_BLANK),
         ("The ", "old |", "moon.", "The old moon.", LEFT_OUT),
         ("The ", "old|", " moon.", "The old moon.", LEFT_OUT),
+        # a blank on both sides is one
+        ("The ", "old |", " moon.", "The old moon.", LEFT_OUT),
+        ("The ", "| old", "moon.", "The oldmoon.", ""),
         ("The", "|old", " moon.", "The old moon.", ""),
         ("The ", "|old", " moon.", "The old moon.", ""),
         ("", "|old|", "moon.", "old moon.", AS_BLANK),

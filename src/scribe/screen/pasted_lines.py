@@ -52,6 +52,8 @@ def _parted_lines(typed: Field, lines: list[str], is_keys: bool) -> list[str]:
     if is_keys and typed.purpose.is_print and typed.front.strip() and lines[0].strip():
         return ["", *lines]
     first, *others = lines
+    # a blank on both sides is one
+    first = first.lstrip(" ") if typed.front.endswith(" ") else first
     return [blank_between(typed.front, first) + first, *others]
 
 
@@ -65,6 +67,7 @@ def _end_of(lines: Sequence[str], is_keys: bool) -> End:
 def _with_line(state: State, typed: Field, line: str, end: End) -> State:
     """The state with one line in what is typed."""
     if end is End.LINE:
+        line = line.rstrip(" ") if typed.back.startswith(" ") else line
         blank = blank_between(line, typed.back)
         state = replace(state, typed=typed.inserted(line + blank))
         return state.saying(_AS_BLANK if blank else _NOT_ENTER)
