@@ -9,7 +9,7 @@ from io import BytesIO, StringIO
 
 import pytest
 
-from scribe.words.console import Console, OutputFailed
+from scribe.words.console import OUTPUT, Console, OutputFailed
 from scribe.words.outgoing import Outgoing
 
 LINES = [f"{number}: the moon is far away" for number in range(2_000)]
@@ -106,7 +106,7 @@ def test_a_reader_is_waited_for_also_where_writes_do_not_wait(
     reader, writer = pipe
     os.set_blocking(writer, False)
     outgoing = Outgoing()
-    outgoing.put(writer, TEXT)
+    outgoing.stream(writer, OUTPUT).write(TEXT.decode())
     with ThreadPoolExecutor(1) as beside:
         found = beside.submit(read_all, reader)
         try:
@@ -121,10 +121,32 @@ def test_bytes_keep_their_order_however_much_is_read_at_once(
 ) -> None:
     reader, writer = pipe
     outgoing = Outgoing()
-    outgoing.put(writer, TEXT[:6_000])
-    outgoing.put(writer, b"said\n")
+    for text in (TEXT[:6_000].decode(), "said\n"):
+        stream = outgoing.stream(writer, OUTPUT)
+        stream.write(text)
+        stream.flush()
     found = b""
     while not found.endswith(b"said\n"):
         found += os.read(reader, 4_096)
         outgoing.pass_on()
     assert found == TEXT[:6_000] + b"said\n"
+
+
+def test_what_fails_after_it_waited_is_called_by_its_name(
+    pipe: tuple[int, int],
+) -> None:
+    reader, writer = pipe
+    output = open(writer, "w", closefd=False)
+    with open("/dev/full", "w") as errors:
+        with pytest.raises(OutputFailed) as failed:
+            with Console(BytesIO(), output, errors).ahead() as ahead:
+                ahead.show(*LINES[:500])
+                # not written yet, since what was shown before it isn't read
+                ahead.say("Half of it.")
+                for line in LINES[500:]:
+                    os.read(reader, 4_096)
+                    ahead.show(line)
+                    ahead.flush()
+    assert failed.value.sentence.startswith(
+        "Standard error could not be written: No space left on device."
+    )

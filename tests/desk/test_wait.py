@@ -6,6 +6,8 @@ import io
 import os
 import subprocess
 import sys
+from collections.abc import Callable
+from contextlib import suppress
 from pathlib import Path
 
 import pytest
@@ -16,7 +18,7 @@ from braildesk.desk.import_note import ImportNote
 from braildesk.protocol.requests import Type
 
 from scribe.cli import run_words
-from scribe.words.console import Console
+from scribe.words.console import WAITING, Console
 from terminal import once_free
 from tool import environment, scribe
 
@@ -101,31 +103,48 @@ def test_a_command_waits_for_as_long_as_it_is_told(
     assert run_beside(monkeypatch, moon, 50, *told)[0] == 0
 
 
+def small_pipe() -> tuple[int, int]:
+    """The ends of a pipe that takes a page."""
+    reader, writer = os.pipe()
+    fcntl.fcntl(writer, fcntl.F_SETPIPE_SZ, 4_096)
+    return reader, writer
+
+
 @pytest.mark.parametrize(
-    "words", ["show {}", "list {} --width 80", "find {} moon", "pages {} --page 1"]
+    "ends, words",
+    [
+        (small_pipe, "show {}"),
+        (small_pipe, "list {} --width 80"),
+        (small_pipe, "find {} moon"),
+        (small_pipe, "pages {} --page 1"),
+        (os.openpty, "show {}"),
+    ],
 )
-def test_others_may_have_a_book_that_a_pager_shows_once_it_is_read(
-    moon: Path, words: str
+def test_others_may_have_a_book_that_somebody_reads_slowly_once_it_is_read(
+    moon: Path, ends: Callable[[], tuple[int, int]], words: str
 ) -> None:
     with Session(moon) as session:
         lines = [f"{number}: the moon is far away." for number in range(300)]
         assert len(list(session.each(Type("end", "en", line) for line in lines))) == 300
     told = [sys.executable, "-m", "scribe", *words.format(moon.name).split()]
     whole = scribe(*told[3:], folder=moon.parent).shown
-    reader, writer = os.pipe()
-    fcntl.fcntl(writer, fcntl.F_SETPIPE_SZ, 4_096)
+    reader, writer = ends()
     process = subprocess.Popen(
         told, cwd=moon.parent, env=environment(), stdout=writer, stderr=writer
     )
     os.close(writer)
-    with open(reader, "rb") as pager:
-        # the pager has one line, and waits for a key
-        front = os.read(reader, 20)
-        with once_free(moon) as session:
-            session.strike(2)
-        found = front + pager.read()
+    # a pager has one line, and waits for a key
+    found = os.read(reader, 20)
+    with once_free(moon) as session:
+        session.strike(2)
+    # the end of what a terminal shows comes as an error
+    with suppress(OSError):
+        while more := os.read(reader, 65_536):
+            found += more
+    os.close(reader)
     assert process.wait() == 0
-    assert found.decode().startswith(whole)
+    found = found.replace(b"\r\n", b"\n")
+    assert found.decode().replace(f"{WAITING}\n", "").startswith(whole)
 
 
 def test_an_import_that_goes_on_waits_too(

@@ -20,6 +20,8 @@ from scribe.words import encoding
 PROGRESS_SECONDS = 2.0
 #: What is said while the program of a session doesn't answer, and for how long it isn't said again.
 WAITING, _WAITING_SECONDS = "Waiting for braildesk to answer.", 10.0
+#: What the streams are called where no more can be written there.
+OUTPUT, ERRORS = "Standard output", "Standard error"
 LEAST_WIDTH = 10
 USUAL_WIDTH = 80
 _INDENT = "  "
@@ -54,7 +56,7 @@ class EndlessLine(InputFailed):
 class OutputFailed(Exception):
     """Standard output, or standard error, can't be written."""
 
-    def __init__(self, cause: OSError, what: str = "Standard output") -> None:
+    def __init__(self, cause: OSError, what: str = OUTPUT) -> None:
         super().__init__(cause)
         self.reader_left = isinstance(cause, BrokenPipeError)
         self.sentence = (
@@ -161,7 +163,7 @@ class Console:
             self.errors.writelines(self._lines(sentences))
             self.errors.flush()
         except OSError as cause:
-            raise OutputFailed(cause, "Standard error") from cause
+            raise OutputFailed(cause, ERRORS) from cause
 
     def _lines(self, texts: Iterable[str], indent: str = "") -> Iterator[str]:
         """Texts in lines of the width, each with its ending."""
@@ -186,7 +188,8 @@ class Console:
             return
         self.flush()
         outgoing, failed = Outgoing(), None
-        output, errors = map(outgoing.stream, numbers)
+        output = outgoing.stream(numbers[0], OUTPUT)
+        errors = outgoing.stream(numbers[1], ERRORS)
         console = replace(self, output=output, errors=errors)
         try:
             try:
@@ -198,12 +201,10 @@ class Console:
             console.flush()
             outgoing.end()
         except KeyboardInterrupt:
-            with suppress(OutputFailed, OSError):
+            with suppress(OutputFailed):
                 console.flush()
                 outgoing.cut_short()
             raise
-        except OSError as cause:
-            raise OutputFailed(cause) from cause
         finally:
             outgoing.close()
         if failed is not None:

@@ -4,14 +4,22 @@ import io
 import os
 import select
 import stat
+import termios
+import time
 from collections import deque
+from contextlib import suppress
 from typing import TYPE_CHECKING, TextIO
+
+from scribe.words.console import OutputFailed
 
 if TYPE_CHECKING:
     from _typeshed import ReadableBuffer
 
 # what a pipe takes without waiting for its reader, if it takes anything
 _AT_ONCE = select.PIPE_BUF
+# after which a line to another machine has sent a character, in seconds
+_SOON = 0.01
+_ANEW = os.O_WRONLY | os.O_NONBLOCK | os.O_NOCTTY | os.O_CLOEXEC
 
 
 class Outgoing:
@@ -21,38 +29,41 @@ class Outgoing:
     """
 
     def __init__(self) -> None:
-        self._waiting: deque[tuple[int, memoryview]] = deque()
-        self._polls: dict[int, select.poll] = {}
+        self._waiting: deque[tuple[_Way, memoryview]] = deque()
         self._is_amid_line = self._is_closed = False
 
-    def stream(self, descriptor: int) -> TextIO:
-        """A stream of text on a descriptor, whose last words come out once it is flushed."""
-        raw = _Raw(self, descriptor)
+    def stream(self, descriptor: int, name: str) -> TextIO:
+        """A stream of text on a descriptor, whose last words come out once it is flushed.
+
+        Where no more can be written, `OutputFailed` calls it by its name.
+        """
+        way = _Way(descriptor, name)
         return io.TextIOWrapper(
-            io.BufferedWriter(raw),
+            io.BufferedWriter(_Raw(self, way)),
             encoding="utf-8",
             errors="backslashreplace",
             newline="\n",
-            line_buffering=raw.isatty(),
+            line_buffering=way.is_terminal,
         )
 
-    def put(self, descriptor: int, data: bytes) -> None:
-        """Has these bytes go out after those before; OSError if no more can."""
+    def put(self, way: "_Way", data: bytes) -> None:
+        """Has these bytes go out after those before."""
         if not self._is_closed:
-            self._waiting.append((descriptor, memoryview(data)))
+            self._waiting.append((way, memoryview(data)))
             self.pass_on()
 
     def pass_on(self) -> None:
         """Writes what the readers take now."""
-        while self._waiting and self._is_taken(self._waiting[0][0], 0):
-            self._write()
+        while self._waiting and self._waiting[0][0].takes_now() and self._write():
+            pass
 
     def end(self) -> None:
         """Writes all that is left, however long the readers take."""
         while self._waiting:
             # a signal comes here and not within a write, of which nobody would know how far it came
-            self._is_taken(self._waiting[0][0], None)
-            self._write()
+            self._waiting[0][0].wait()
+            if not self._write():
+                time.sleep(_SOON)
         self._is_closed = True
 
     def cut_short(self) -> None:
@@ -61,10 +72,10 @@ class Outgoing:
             b"".join(data for _, data in self._waiting) if self._is_amid_line else b""
         )
         line, end, _ = left.partition(b"\n")
-        descriptor = self._waiting[0][0] if self._waiting else 0
+        way = self._waiting[0][0] if self._waiting else None
         self._waiting.clear()
-        if end:
-            self.put(descriptor, line + end)
+        if way and end:
+            self.put(way, line + end)
         self.close()
 
     def close(self) -> None:
@@ -72,33 +83,79 @@ class Outgoing:
         self._is_closed = True
         self._waiting.clear()
 
-    def _is_taken(self, descriptor: int, wait: int | None) -> bool:
-        """Whether something is taken there within some milliseconds, or waits until it is.
-
-        Where a reader left, what is written fails.
-        """
-        if descriptor not in self._polls:
-            self._polls[descriptor] = select.poll()
-            self._polls[descriptor].register(descriptor, select.POLLOUT)
-        return bool(self._polls[descriptor].poll(wait))
-
-    def _write(self) -> None:
-        """Writes a part of what is next."""
-        descriptor, data = self._waiting[0]
-        count = os.write(descriptor, data[:_AT_ONCE])
+    def _write(self) -> bool:
+        """Writes a part of what is next, and says whether anything of it was taken."""
+        way, data = self._waiting[0]
+        count = way.write(data[:_AT_ONCE])
+        if count == 0:
+            return False
         self._is_amid_line = data[count - 1 : count] != b"\n"
         if count < len(data):
-            self._waiting[0] = descriptor, data[count:]
+            self._waiting[0] = way, data[count:]
         else:
             self._waiting.popleft()
+        return True
+
+
+class _Way:
+    """A descriptor, and what is known of its reader.
+
+    A terminal says that it takes something also where a write then waits for it to take the rest. So
+    it is opened anew, since what is set for the descriptor itself is set for the shell too. Where that
+    can't be, as after `su`, it takes nothing but what is waited for.
+    """
+
+    def __init__(self, descriptor: int, name: str) -> None:
+        self.descriptor, self.name = descriptor, name
+        self.is_terminal = os.isatty(descriptor)
+        self._poll = select.poll()
+        self._poll.register(descriptor, select.POLLOUT)
+        self._anew: int | None = None
+        if self.is_terminal:
+            with suppress(OSError):
+                self._anew = os.open(f"/proc/self/fd/{descriptor}", _ANEW)
+
+    def takes_now(self) -> bool:
+        """Whether something is taken there, so that no write waits; where a reader left, it fails."""
+        if self.is_terminal and (self._anew is None or self._stops_job()):
+            return False
+        return bool(self._poll.poll(0))
+
+    def wait(self) -> None:
+        """Waits until something is taken there."""
+        self._poll.poll()
+
+    def write(self, data: memoryview) -> int:
+        """How many bytes are taken there."""
+        try:
+            return os.write(self.descriptor if self._anew is None else self._anew, data)
+        except BlockingIOError:
+            return 0
+        except OSError as cause:
+            raise OutputFailed(cause, self.name) from cause
+
+    def close(self) -> None:
+        """Closes what was opened anew."""
+        if self._anew is not None:
+            os.close(self._anew)
+            self._anew = None
+
+    def _stops_job(self) -> bool:
+        """Whether a terminal stops who writes to it in the background, as after `stty tostop`."""
+        try:
+            in_front = os.tcgetpgrp(self.descriptor)
+            local_modes: int = termios.tcgetattr(self.descriptor)[3]
+        except (OSError, termios.error):
+            return False
+        return in_front != os.getpgrp() and bool(local_modes & termios.TOSTOP)
 
 
 class _Raw(io.RawIOBase):
     """Bytes that go out on a descriptor."""
 
-    def __init__(self, outgoing: Outgoing, descriptor: int) -> None:
+    def __init__(self, outgoing: Outgoing, way: _Way) -> None:
         self._outgoing = outgoing
-        self._descriptor = descriptor
+        self._way = way
 
     def writable(self) -> bool:
         """Whether it can be written."""
@@ -106,16 +163,21 @@ class _Raw(io.RawIOBase):
 
     def fileno(self) -> int:
         """The descriptor."""
-        return self._descriptor
+        return self._way.descriptor
 
     def isatty(self) -> bool:
         """Whether a person follows it."""
-        return os.isatty(self._descriptor)
+        return self._way.is_terminal
+
+    def close(self) -> None:
+        """Leaves the descriptor itself open."""
+        super().close()
+        self._way.close()
 
     def write(self, data: "ReadableBuffer") -> int:
         """Has some bytes go out."""
         its = bytes(data)
-        self._outgoing.put(self._descriptor, its)
+        self._outgoing.put(self._way, its)
         return len(its)
 
 
