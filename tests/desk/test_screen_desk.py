@@ -7,6 +7,7 @@ import signal
 import tempfile
 from collections.abc import Iterator
 from pathlib import Path
+from typing import Any
 
 import pytest
 
@@ -16,12 +17,14 @@ from braildesk.desk.draft import Aim, Draft
 from braildesk.desk.drafts import Drafts
 from braildesk.text.cells import braille_patterns
 
-from scribe.screen.background import ActionResult
+from scribe.screen.background import ActionResult, done_in_background
 from scribe.screen.desk import Desk
 from scribe.screen.field import Field, Purpose
 from scribe.screen.state import Pages, Size
 from scribe.words.preview import Preview, Tables
 from sitting import Sat, Sit
+from stand_in import KEPT, KILL_PROGRAM
+from terminal import standing_in
 from tool import ROOT
 
 SMALL = (
@@ -444,6 +447,30 @@ def test_an_import_that_is_cut_short_is_kept_as_far_as_it_came(
     assert sat.lines[0].endswith(
         "version 9, table en, last kept: 1 paragraph of the import"
     )
+
+
+def test_what_is_kept_of_an_import_is_said_also_if_another_program_has_the_book_then(
+    moon: Path, sit: Sit, monkeypatch: pytest.MonkeyPatch
+) -> None:
+    text = moon.with_name("text.txt")
+    text.write_text("The sun\n\nThe stars\n\nThe sea\n")
+    for name, value in standing_in(2, KEPT, KILL_PROGRAM).items():
+        monkeypatch.setenv(name, value)
+    others: list[Session] = []
+
+    def then_taken(path: Path, *words: Any) -> ActionResult:
+        ending = done_in_background(path, *words)
+        others.append(Session(path))
+        return ending
+
+    monkeypatch.setattr("scribe.screen.desk.done_in_background", then_taken)
+    monkeypatch.setattr("braildesk.desk.aftermath.PATIENCE", 0.0)
+    sat = sit(moon)
+    sat.press("i", *str(text), "enter")
+    sat.state = sat.desk.away(sat.state, lambda line: None)
+    others[0].close()
+    assert sat.state.pages and sat.state.pages.title == "The book is closed."
+    assert sat.lines[0].endswith("last kept: 2 paragraphs of the import")
 
 
 def test_what_an_import_did_is_said_also_if_another_program_takes_the_book_then(

@@ -77,7 +77,7 @@ _AROUND = 50
 def import_in_words(
     job: Import, console: Console, report: Path | None = None, again: str = ""
 ) -> tuple[Status, str]:
-    """Imports a text, and says what became of it: a command's status, and what was kept, if it is.
+    """Imports a text, and says what became of it: a command's status, and what was kept, if anything.
 
     What a book can't hold of it is said before that, and all of it is written to a file, if one is
     named. If it was cut short, `again` says how to go on where that isn't by a command. Raises
@@ -94,7 +94,7 @@ def import_in_words(
             console.say(sentence, *_left(importer.job, intake, cut, again))
             if isinstance(cut.cause, KeyboardInterrupt):
                 raise Interrupted.after(cut.cause) from cut
-            return status, ""
+            return status, _part_kept(cut)
     if not typed.count:
         console.show(f"All of {job.text} is in the book now.")
         return Status.DONE, f"the rest of {job.text.name}"
@@ -105,6 +105,13 @@ def import_in_words(
     kept = f"{_paragraphs(typed.count)} typed, {numbers}, by the table {typed.table}"
     console.show(f"{kept}.")
     return Status.DONE, kept
+
+
+def _part_kept(cut: CutShort) -> str:
+    """What was kept of an import that was cut short, if anything was in the file at the book's path."""
+    count = cut.done if cut.kept is None else cut.kept
+    is_there = count > 0 and not cut.is_displaced
+    return f"{_paragraphs(count)} of the import" if is_there else ""
 
 
 def trial_in_words(job: Import, console: Console, report: Path | None = None) -> Status:
