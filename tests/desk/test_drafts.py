@@ -157,6 +157,31 @@ def test_a_text_is_not_offered_for_a_copy_in_another_folder(
     assert Drafts(in_folder).waiting() == NOTE
 
 
+@pytest.mark.parametrize(
+    "number, before, is_offered",
+    [(2, "The Tides", True), (2, "The tides", False), (9, "The Tides", False)],
+)
+def test_a_text_is_offered_for_a_book_from_a_backup_that_has_the_print_where_it_was_typed(
+    in_folder: Path, sit: Sit, number: int, before: str, is_offered: bool
+) -> None:
+    draft = Draft(Aim.AFTER, number, "en", before, "It rose.", None, 9)
+    Drafts(in_folder).save(draft)
+    restored = in_folder.parent.with_name("restored.braildesk")
+    shutil.copyfile(in_folder, restored)
+    in_folder.unlink()
+    sat = sit(restored)
+    asked = sat.state.question.sentence if sat.state.question else ""
+    assert (
+        asked.startswith(
+            f"A text of a new paragraph was typed and isn't in the book: “It rose.”. It was"
+            f" typed when the book was {in_folder}."
+        )
+        is is_offered
+    )
+    kept = Drafts(restored if is_offered else in_folder)
+    assert kept.waiting() == draft
+
+
 def test_a_book_is_known_again_by_a_number_of_any_size(
     in_folder: Path, monkeypatch: pytest.MonkeyPatch
 ) -> None:

@@ -318,6 +318,22 @@ class Drafts:
             # what can't be read is said where it is asked for
             pass
 
+    def adopt_if(self, is_of_book: Callable[[Draft], bool]) -> None:
+        """Takes over a text that waits for a book which isn't at its path any more, if none waits here.
+
+        So a book from a backup or on another disk has it, whose file is another. May raise `OSError`.
+        """
+        names, its = self._folder.names(), self._name(Begun.WAITING)
+        for name in () if its in names else names:
+            if name.partition(".")[2] != Begun.WAITING.value:
+                continue
+            with suppress(NotSuch, OSError):
+                kept = Record.of(self._folder.read(name) or b"")
+                draft, path = draft_in(kept), kept.path("book")
+                if is_of_book(draft) and not os.path.lexists(path):
+                    self._folder.rename(name, its)
+                    return
+
     def copy_to(self, book: Path) -> None:
         """Keeps for another book all that is kept for this one, which was saved there."""
         other = Drafts(book)

@@ -182,10 +182,15 @@ class Desk:
 
     def first_state(self, size: Size, by: str | None, is_ascii: bool) -> State:
         """The screen as it is at the opening, with the text that waits from before."""
+        book = self._session.paragraphs()
+        numbers = {each.id for each in book}
+        self._unsent.look_elsewhere(
+            lambda its: self._session.print_of(its) if its in numbers else None
+        )
         state = State(
             self.path.name,
             self._session.last_version,
-            self._session.paragraphs(),
+            book,
             self.tables.names,
             size,
             by=by,

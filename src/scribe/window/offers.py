@@ -45,6 +45,13 @@ class Offers:
         words = desk.aside.result(desk.drafts.words)
         if words is not None and all(words):
             desk.say(f"{words_wait(words)} Ctrl+H has the words still.")
+        contents, session = desk.contents, desk.book.session
+        numbers = {each.id for each in contents.paragraphs}
+        desk.asked(
+            lambda: desk.unsent.look_elsewhere(
+                lambda its: session.print_of(its) if its in numbers else None
+            )
+        )
         waiting = desk.unsent.waiting
         if waiting is not None:
             self._offer_text(waiting)

@@ -1,5 +1,7 @@
 """What a person began and the book doesn't have yet, in words, what becomes of it, and why it isn't kept."""
 
+from collections.abc import Callable
+from contextlib import suppress
 from dataclasses import replace
 from pathlib import Path
 
@@ -136,6 +138,19 @@ class Unsent:
         self._unread = self._drafts.unread()
         if self._unread is not None:
             self._read_unread(self._unread)
+
+    def look_elsewhere(self, print_of: Callable[[int], str | None]) -> None:
+        """Has a text wait that was typed at a print of this book, where no book is any more."""
+
+        def is_of_book(draft: Draft) -> bool:
+            number, before = draft.paragraph, draft.before
+            return bool(before) and number is not None and print_of(number) == before
+
+        with suppress(NotKept, OSError):
+            if self.waiting is None:
+                self._drafts.adopt_if(is_of_book)
+                self.waiting = self._drafts.waiting()
+                self.typed_at = self._drafts.typed_at()
 
     def _read_unread(self, unread: Unread) -> None:
         """Has what came last go on after the text that waits, or else be among those given up."""
