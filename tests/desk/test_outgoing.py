@@ -2,14 +2,15 @@
 
 import fcntl
 import os
+import termios
 from collections.abc import Iterator
-from concurrent.futures import ThreadPoolExecutor
+from concurrent.futures import ThreadPoolExecutor, wait
 from dataclasses import replace
 from io import BytesIO, StringIO
 
 import pytest
 
-from scribe.words.console import OUTPUT, Console, OutputFailed
+from scribe.words.console import OUTPUT, WAITING, Console, OutputFailed
 from scribe.words.outgoing import Outgoing
 
 LINES = [f"{number}: the moon is far away" for number in range(2_000)]
@@ -150,3 +151,18 @@ def test_what_fails_after_it_waited_is_called_by_its_name(
     assert failed.value.sentence.startswith(
         "Standard error could not be written: No space left on device."
     )
+
+
+def test_no_work_waits_for_a_stopped_terminal_to_say_that_it_goes_on() -> None:
+    reader, writer = os.openpty()
+    termios.tcflow(writer, termios.TCOOFF)
+    with open(writer, "w") as terminal, ThreadPoolExecutor(1) as beside:
+        console = Console(BytesIO(), terminal, terminal)
+        said = beside.submit(console.waiting())
+        done, _ = wait([said], timeout=60)
+        termios.tcflow(writer, termios.TCOON)
+        assert done == {said}
+        # and it is said where the terminal goes on
+        console.waiting()()
+        assert os.read(reader, 100) == f"{WAITING}\r\n".encode()
+    os.close(reader)

@@ -222,7 +222,7 @@ class Console:
 
         If the errors are no terminal nothing is said. Each sentence is a line of its own, since
         a line that is written over can't be followed by a screen reader. If nothing more can be
-        said the work goes on.
+        said, or nothing now, the work goes on.
         """
         is_followed = self.errors.isatty()
         last = time.monotonic()
@@ -232,8 +232,7 @@ class Console:
             self.check()
             if is_followed and time.monotonic() - last >= PROGRESS_SECONDS:
                 last = time.monotonic()
-                with suppress(OutputFailed):
-                    self.say(f"{done:,} of {total:,} {what}.")
+                self._say_now(f"{done:,} of {total:,} {what}.")
 
         return report
 
@@ -250,10 +249,19 @@ class Console:
             self.check()
             before, last = last, time.monotonic()
             if is_followed and last - before >= _WAITING_SECONDS:
-                with suppress(OutputFailed):
-                    self.say(WAITING)
+                self._say_now(WAITING)
 
         return report
+
+    def _say_now(self, sentence: str) -> None:
+        """Says a sentence on which nothing depends, unless a stopped terminal would hold up the work."""
+        # imported only where something takes long
+        from scribe.words.outgoing import takes_line
+
+        numbers = self._descriptors()
+        if numbers is None or takes_line(numbers[1]):
+            with suppress(OutputFailed):
+                self.say(sentence)
 
 
 class Heard(StringIO):

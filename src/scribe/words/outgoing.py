@@ -4,7 +4,6 @@ import io
 import os
 import select
 import stat
-import termios
 import time
 from collections import deque
 from contextlib import suppress
@@ -117,7 +116,7 @@ class _Way:
 
     def takes_now(self) -> bool:
         """Whether something is taken there, so that no write waits; where a reader left, it fails."""
-        if self.is_terminal and (self._anew is None or self._stops_job()):
+        if self.is_terminal and (self._anew is None or stops_job(self.descriptor)):
             return False
         return bool(self._poll.poll(0))
 
@@ -139,15 +138,6 @@ class _Way:
         if self._anew is not None:
             os.close(self._anew)
             self._anew = None
-
-    def _stops_job(self) -> bool:
-        """Whether a terminal stops who writes to it in the background, as after `stty tostop`."""
-        try:
-            in_front = os.tcgetpgrp(self.descriptor)
-            local_modes: int = termios.tcgetattr(self.descriptor)[3]
-        except (OSError, termios.error):
-            return False
-        return in_front != os.getpgrp() and bool(local_modes & termios.TOSTOP)
 
 
 class _Raw(io.RawIOBase):
@@ -185,3 +175,22 @@ def has_reader(descriptor: int) -> bool:
     """Whether what is written there waits for somebody who reads it, as at a pipe or a terminal."""
     mode = os.fstat(descriptor).st_mode
     return stat.S_ISFIFO(mode) or stat.S_ISSOCK(mode) or os.isatty(descriptor)
+
+
+def takes_line(terminal: int) -> bool:
+    """Whether a terminal takes a line now, so that its writer neither waits nor is stopped."""
+    poll = select.poll()
+    poll.register(terminal, select.POLLOUT)
+    return bool(poll.poll(0)) and not stops_job(terminal)
+
+
+def stops_job(terminal: int) -> bool:
+    """Whether a terminal stops who writes to it in the background, as after `stty tostop`."""
+    import termios  # which only a terminal needs
+
+    try:
+        in_front = os.tcgetpgrp(terminal)
+        local_modes: int = termios.tcgetattr(terminal)[3]
+    except (OSError, termios.error):
+        return False
+    return in_front != os.getpgrp() and bool(local_modes & termios.TOSTOP)
