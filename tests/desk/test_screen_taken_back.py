@@ -68,6 +68,18 @@ def test_u_takes_back_one_thing_after_the_other(moon: Path, sit: Sit) -> None:
     assert sat.state.message == "Taken back: the newest correction of paragraph 1."
 
 
+def test_the_cursor_is_where_a_correction_was_taken_back(moon: Path, sit: Sit) -> None:
+    sat = sit(moon)
+    # at the end of the print as it was corrected, and of its cells
+    for keys, there in (
+        ("", "“o” ⠕, character 7, cell 8"),
+        ("tab", "⠕ “o”, cell 8, character 7"),
+    ):
+        sat.press("c-home", "enter", *["right"] * 6, "O", "enter", "c-end")
+        sat.press(*keys.split(), "u")
+        assert there in sat.lines
+
+
 def test_a_typed_paragraph_is_taken_back_by_striking_it(moon: Path, sit: Sit) -> None:
     sat = sit(moon)
     sat.press("o", *"It rose.", "enter", "escape", "c-home", "u")

@@ -16,7 +16,7 @@ from braildesk import (
     requests,
 )
 from braildesk.desk import aftermath
-from braildesk.desk.correction import place_kept
+from braildesk.desk.correction import place_kept, smallest_correction
 from braildesk.desk.draft import Aim, Draft, Unread
 from braildesk.desk.drafts import Drafts, LeftAt, NotKept
 from braildesk.desk.highlighting import cells_of_marks
@@ -753,6 +753,8 @@ class Desk:
         was = before.reading
         place = state.place if was and was.paragraph.id == number else 0
         state = refreshed(self._session, state.at(chosen, place))
+        if before.typed is None:
+            state = refreshed(self._session, _at_change(state, before))
         return with_mark_in_hand(state, before)
 
     def _run(
@@ -1018,6 +1020,19 @@ def with_preview(state: State, asked: State, preview: Preview) -> State:
         # another text, under which it would be untrue
         return state
     return replace(state, preview=preview)
+
+
+def _at_change(state: State, before: State) -> State:
+    """The state with the cursor where the print of its paragraph isn't as before, or the cells."""
+    was, now = before.reading, state.reading
+    if was is None or now is None or was.paragraph.id != now.paragraph.id:
+        return state
+    change = smallest_correction(was.text, now.text)
+    if change is not None and state.pane is Pane.CELLS:
+        change = smallest_correction(was.braille, now.braille)
+    if change is None:
+        return state
+    return replace(state, place=change.start, highlighted=None)
 
 
 def _is_gone_on_from(asked: Command[Any] | Action | None) -> bool:

@@ -61,7 +61,8 @@ def _of_paragraph(command: Command[Any], was: Paragraph, before: After) -> Deed:
     name, number = f"paragraph {was.id}", was.id
     match command:
         case requests.Correct():
-            return Deed(f"{name} was corrected", (requests.Undo(number),))
+            back = (requests.Undo(number),)
+            return Deed(f"{name} was corrected", back, paragraph=number)
         case requests.Strike():
             return Deed(f"{name} was struck", (requests.Restore(number),))
         case requests.Restore():
