@@ -316,6 +316,10 @@ def test_words_of_a_line_that_stand_more_than_once_are_asked_about(
     assert (
         talk.type("change 1 a o --nth 1")[0] == "Paragraph 1: The moon is for [o]way."
     )
+    assert talk.type("change 1 o a --nth 9")[:2] == [
+        "Paragraph 1 has “o” 4 times. There is no",
+        "place 9. Nothing was changed.",
+    ]
 
 
 def test_a_mark_is_put_on_words(talk: Prompted) -> None:

@@ -14,6 +14,7 @@ from braildesk.text.excerpt import excerpt_lines, opening
 from braildesk.text.spans import find_spans
 
 from scribe.cli.commands import AT_PROMPT, COMMANDS, prompt_command
+from scribe.cli.opened_book import places_shown
 from scribe.cli.parser import Asked, Parser, TextAsked, WordsRefused, as_asked
 from scribe.prompt.conversation import Conversation
 from scribe.words.find import instead
@@ -120,7 +121,8 @@ def command_answered(talk: Conversation, file: Path, name: str, rest: str) -> No
     console = as_asked(talk.console, arguments)
     try:
         its.judge(arguments)
-        outcome = its.answering()(talk.session, arguments, console)
+        with places_shown(console.columns):
+            outcome = its.answering()(talk.session, arguments, console)
     except WordsRefused as refused:
         _say_refused(talk, parser, refused)
         return
