@@ -42,12 +42,12 @@ SAID = {
     "a table that isn't there": (
         "t x y enter",
         f"There is no table xy in {FOLDER}. Nothing was changed. Without a file a table may be:"
-        " en, ueb. Else give the file of the table after its name.",
+        " en, ueb. Another is put into a book by: scribe table BOOK NAME FILE",
     ),
     "a name that no table has": (
         "t X enter",
         f"There is no table X in {FOLDER}. Nothing was changed. Without a file a table may be:"
-        " en, ueb. Else give the file of the table after its name.",
+        " en, ueb. Another is put into a book by: scribe table BOOK NAME FILE",
     ),
     "a paragraph that isn't there": (
         "g 9 enter",

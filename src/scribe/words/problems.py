@@ -71,6 +71,6 @@ def as_stop(problem: Problem) -> Stop:
 def _no_such_table(problem: NoSuchTable) -> str:
     return (
         f"There is no table {problem.name} in {problem.folder}. Nothing was changed. Without a"
-        f" file a table may be: {', '.join(problem.names)}. Else give the file of the table after"
-        " its name."
+        f" file a table may be: {', '.join(problem.names)}. Another is put into a book by: scribe"
+        " table BOOK NAME FILE"
     )
