@@ -47,7 +47,7 @@ class Outgoing:
 
     def put(self, way: "_Way", data: bytes) -> None:
         """Has these bytes go out after those before."""
-        if not self._is_closed:
+        if data and not self._is_closed:
             self._waiting.append((way, memoryview(data)))
             self.pass_on()
 
