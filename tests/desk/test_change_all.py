@@ -240,8 +240,7 @@ def test_where_it_is_stopped_it_is_said_what_is_in_the_book(
             Console(BytesIO(), shown, said),
         )
     assert said.getvalue() == (
-        "Stopped. Of 4 places 2 are changed in the book, from its front on. The book is at"
-        " version 7.\n"
+        "Stopped. Of 4 places 2 are changed in the book. The book is at version 7.\n"
     )
     assert prints(moons) == ["The moon and the Mooon.", "A moonlit mooon", "No mooon"]
 
@@ -287,8 +286,7 @@ def test_where_it_is_stopped_and_others_take_the_book_it_is_said_what_was_change
     )
     close(others[0])
     assert said == (
-        "Stopped. Of 4 places 2 are changed in the book, from its front on. The book is at"
-        " version 7.\n"
+        "Stopped. Of 4 places 2 are changed in the book. The book is at version 7.\n"
     )
 
 
@@ -328,7 +326,7 @@ def test_where_the_session_ends_it_is_said_how_many_places_are_changed(
     )
     assert (status, said.getvalue()) == (
         3,
-        "Of 4 places 2 are changed in the book, from its front on. The book is at version 7.\n"
+        "Of 4 places 2 are changed in the book. The book is at version 7.\n"
         "The session was ended by signal 9.\n"
         "The book was opened again: it is at version 7, and what was changed last is in it.\n",
     )

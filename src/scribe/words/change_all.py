@@ -133,9 +133,10 @@ def stopped_after(changed: int, places: int, version: int) -> str:
     """What is in the book if the replacing was stopped."""
     if not changed:
         return f"Nothing was changed. {at_version(version)}"
+    # a person, or the book, may have left some between these as they are
     is_are = "is" if changed == 1 else "are"
     return (
-        f"Of {counted(places, 'place')} {changed:,} {is_are} changed in the book, from its front on."
+        f"Of {counted(places, 'place')} {changed:,} {is_are} changed in the book."
         f" {at_version(version)}"
     )
 
