@@ -23,8 +23,8 @@ and ``wording`` fills in the sentences. Beside these folders, ``version`` reads 
 ``refusals`` has the exceptions. ``named_files`` reads files that a person names, and nothing that
 is no file. ``confined`` runs programs that others wrote within limits of time and memory.
 ``opening`` finds out why a file can't be opened, by its lock, its log and a stranger's tables, and
-tries again while it is in use. ``workshop`` makes files whole before they get their names, and
-``held`` keeps a closed book from being opened. ``program`` finds and runs the program, ``files``
+tries again while it is in use. ``workshop`` makes files whole before they get their names,
+``writers`` says who may write a file, and ``held`` keeps a closed book from being opened. ``program`` finds and runs the program, ``files``
 reads tables and versions of books, and ``pipe`` moves bytes to and from a session of the program.
 ``watch`` tells that another program had a file open for writing, ``openfile`` sees to the file of a
 session, ``beginning`` starts its program, ``rescue`` says what became of the file and saves the book

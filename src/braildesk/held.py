@@ -10,6 +10,7 @@ from typing import BinaryIO
 from braildesk import opening
 from braildesk.opening import (
     has_journal,
+    has_page,
     has_work,
     take_alone,
     take_shared,
@@ -17,9 +18,16 @@ from braildesk.opening import (
 )
 from braildesk.protocol.asked import BookFile, log_path, real_path
 from braildesk.protocol.sentences import Why
-from braildesk.refusals import cannot_open
+from braildesk.refusals import Refused, cannot_open
 from braildesk.text import limits
-from braildesk.workshop import copy_bytes, create, give_access, mode_of
+from braildesk.workshop import (
+    access_list,
+    copy_bytes,
+    create,
+    give_access,
+    give_list,
+)
+from braildesk.writers import has_more_writers
 
 
 @contextmanager
@@ -67,20 +75,53 @@ def open_file(book: BookFile, flags: int = os.O_RDONLY) -> BinaryIO:
 
 
 def fit_log(book: BookFile) -> None:
-    """Gives a log of one's own the mode and the group that its book has by now.
+    """Sees to it that a log lies beside a book, and that nobody may write it who may not write the book.
 
-    Else who may only read the book could write there what the next session would take into it. What
-    a list of access gives to single users stays as it is.
+    What stands there is taken into the book. ``CannotOpen`` where such a log has work, of which nobody
+    knows whose it is, or can't be removed. One of one's own gets the mode that the book has by now.
     """
-    path, log_name = Path(real_path(book.path)), Path(log_path(book.path)).name
+    path, name = Path(real_path(book.path)), Path(log_path(book.path)).name
+    if not os.access(path, os.W_OK):
+        return
     with suppress(OSError, ValueError), _folder(path.parent) as folder:
         # both lie in one folder, whatever is put in its place meanwhile
-        with _alone(folder, path.name) as file, _alone(folder, log_name) as log:
-            found, like = os.fstat(log.fileno()), os.fstat(file.fileno())
-            is_own = os.geteuid() in (0, found.st_uid)
-            has_list = mode_of(file.fileno(), like) != like.st_mode & 0o777
-            if is_own and not has_list and _access(found) != _access(like):
-                give_access(log.fileno(), file.fileno())
+        with _alone(folder, path.name) as file:
+            _remove_open(book, folder, name, file)
+            _begin_log(folder, name, file)
+            with _alone(folder, name) as log:
+                if has_more_writers(log, file):
+                    raise cannot_open(book, Why.LOG_OPEN)
+                _give_mode(log, file)
+
+
+def _remove_open(book: BookFile, folder: int, name: str, file: BinaryIO) -> None:
+    """Removes a log that has no work and may be written by people who may not write the book."""
+    with suppress(FileNotFoundError), _alone(folder, name) as log:
+        if has_more_writers(log, file):
+            # while a session has the book, it is using the log
+            with suppress(OSError, Refused), held(book, os.O_RDWR):
+                if not has_page(os.fstat(log.fileno()).st_size):
+                    os.unlink(name, dir_fd=folder)
+
+
+def _begin_log(folder: int, name: str, file: BinaryIO) -> None:
+    """Makes an empty log that is like its book, unless one is there, before somebody else makes one."""
+    flags = os.O_RDWR | os.O_CREAT | os.O_EXCL | os.O_NOFOLLOW | os.O_CLOEXEC
+    with suppress(FileExistsError):
+        with open(os.open(name, flags, 0o600, dir_fd=folder), "r+b") as log:
+            give_list(log.fileno(), file.fileno())
+            give_access(log.fileno(), file.fileno())
+
+
+def _give_mode(log: BinaryIO, file: BinaryIO) -> None:
+    """Gives a log of one's own the mode and the group that its book has by now.
+
+    What a list of access gives to single users stays as it is.
+    """
+    found, like = os.fstat(log.fileno()), os.fstat(file.fileno())
+    is_own = os.geteuid() in (0, found.st_uid)
+    if is_own and not access_list(file.fileno()) and _access(found) != _access(like):
+        give_access(log.fileno(), file.fileno())
 
 
 def _access(found: os.stat_result) -> tuple[int, int]:
@@ -127,7 +168,8 @@ def is_at_path(book: BookFile, file: BinaryIO) -> bool:
 def copy_held(source: BinaryIO, log: str, made: Path) -> os.stat_result:
     """Copies the file of a book that is held, and the work that stands in its log.
 
-    What was made is said, so that it is known again.
+    What was made is said, so that it is known again. ``CannotOpen`` if somebody may have written the
+    log who may not write the book.
     """
     with create(made) as written:
         copy_bytes(source.fileno(), written.fileno())
@@ -136,6 +178,8 @@ def copy_held(source: BinaryIO, log: str, made: Path) -> os.stat_result:
         # whatever was put in its place in this moment, nothing is waited for
         flags = os.O_RDONLY | os.O_NOFOLLOW | os.O_NONBLOCK | os.O_CLOEXEC
         with open(os.open(log, flags), "rb") as work:
+            if has_more_writers(work, source):
+                raise cannot_open(BookFile(log.removesuffix("-wal")), Why.LOG_OPEN)
             with create(Path(f"{made}-wal")) as written:
                 copy_bytes(work.fileno(), written.fileno())
     return found

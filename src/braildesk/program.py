@@ -237,9 +237,12 @@ def judge(asked: AskedOfFile, program: str) -> None:
     if isinstance(asked, TableFile):
         return
     _judge_file(asked)
-    fit_log(BookFile(asked.path))
     try:
         fault = _fault_of(asked.path, program)
+        if fault is None:
+            fit_log(BookFile(asked.path))
+    except CannotOpen as refusal:
+        fault = refusal.why if refusal.why is Why.LOG_OPEN else None
     except (OSError, ValueError, Refused):
         return
     if fault is not None:

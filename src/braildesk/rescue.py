@@ -22,6 +22,7 @@ _UNTOLD = frozenset(
     {
         Why.DENIED,
         Why.LOG_DENIED,
+        Why.LOG_OPEN,
         Why.READ_ONLY,
         Why.NO_ROOM,
         Why.OVER_QUOTA,

@@ -204,6 +204,15 @@ def give_access(file: int, like: int) -> None:
         os.fchmod(file, mode)
 
 
+def give_list(file: int, like: int) -> None:
+    """Gives a file the list of access that another one has, or none."""
+    try:
+        os.setxattr(file, _ACL, os.getxattr(like, _ACL))
+    except OSError:
+        with suppress(OSError):
+            os.removexattr(file, _ACL)
+
+
 def limit_group(file: int, mode: int) -> bool:
     """Lets the group itself do no more with a file that has a list of access than a mode says.
 
@@ -241,14 +250,20 @@ def mode_of(file: int | Path, found: os.stat_result) -> int:
     group what anybody on that list may do at most.
     """
     mode = found.st_mode & 0o777
-    try:
-        listed = os.getxattr(file, _ACL)
-    except OSError:
-        return mode
-    for tag, may, _ in _ACL_ENTRY.iter_unpack(listed[_ACL_FRONT : _end_of(listed)]):
+    for tag, may, _ in access_list(file):
         if tag == _OF_GROUP:
             mode &= ~stat.S_IRWXG | may << 3
     return mode
+
+
+def access_list(file: int | Path) -> list[tuple[int, int, int]]:
+    """The entries of the list of access that a file has: whom each is about, what that one may do, a number."""
+    try:
+        listed = os.getxattr(file, _ACL)
+    except OSError:
+        return []
+    entries = _ACL_ENTRY.iter_unpack(listed[_ACL_FRONT : _end_of(listed)])
+    return [(tag, may, whom) for tag, may, whom in entries]
 
 
 def copy_bytes(source: int, target: int) -> None:

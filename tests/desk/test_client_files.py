@@ -44,7 +44,7 @@ from braildesk.refusals import cannot_open
 from braildesk.snapshot import snapshot
 from braildesk.workshop import mode_of
 
-from strangers import NEEDS_ROOT, as_stranger
+from strangers import NEEDS_ROOT, STRANGER, as_stranger, lead_to
 from tool import WAIT_SECONDS
 
 ROOT = Path(__file__).parents[2]
@@ -898,6 +898,109 @@ def test_the_log_has_the_mode_that_the_book_has_by_now(book: Path) -> None:
         book.chmod(mode)
         Session(book).close()
         assert stat.S_IMODE(log.stat().st_mode) == mode
+
+
+@NEEDS_ROOT
+def test_a_log_that_may_be_written_by_people_who_may_not_write_the_book_is_not_taken(
+    book: Path, tmp_path: Path
+) -> None:
+    lead_to(tmp_path)
+    log = Path(f"{book}-wal")
+    os.chown(book, -1, STRANGER)
+    book.chmod(0o664)
+    forged = Path(shutil.copyfile(book, tmp_path / "forged"))
+    killed_after(book, "of the office")
+    killed_after(forged, "of the stranger")
+    book.chmod(0o644)
+    work, others = log.read_bytes(), Path(f"{forged}-wal").read_bytes()
+
+    def forge(path: Path) -> Callable[[], object]:
+        return lambda: path.write_bytes(others)
+
+    assert as_stranger(forge(book)) == "PermissionError"
+    assert as_stranger(forge(log)) == ""
+    before = book.read_bytes()
+    with pytest.raises(CannotOpen) as caught:
+        Session(book)
+    assert caught.value.why is Why.LOG_OPEN
+    takes = f"install -m 600 -- {log} {log}-own && mv -f -- {log}-own {log}"
+    assert caught.value.sentence == (
+        f"“{log}”, in which the newest work of “{book}” is looked for, may be written by people who"
+        " may not write the book, as after a change of its permissions. They may have put something"
+        " else there. Nothing was changed. If you know that the work is yours, take it by this"
+        f" command, and open the book again: {takes}. If you don't, move “{log}” away, and go on"
+        " without it."
+    )
+    looks: list[Callable[[], object]] = [
+        lambda: braildesk.copy(book, tmp_path / "copy"),
+        lambda: braildesk.read_tables(book),
+        lambda: snapshot(book).__enter__(),
+    ]
+    for look in looks:
+        with pytest.raises(CannotOpen) as caught:
+            look()
+        assert caught.value.why is Why.LOG_OPEN
+    assert (book.read_bytes(), log.read_bytes()) == (before, others)
+    log.write_bytes(work)
+    subprocess.run(takes, shell=True, check=True)
+    with Session(book) as session:
+        assert session.print_of(1) == "of the office"
+    assert as_stranger(forge(log)) == "PermissionError"
+
+
+@NEEDS_ROOT
+def test_a_log_of_somebody_who_may_not_write_the_book_is_not_taken(
+    book: Path, tmp_path: Path
+) -> None:
+    log = Path(f"{book}-wal")
+    killed_after(book, "of a colleague")
+    os.chown(log, STRANGER, STRANGER)
+    with pytest.raises(CannotOpen) as caught:
+        Session(book)
+    assert caught.value.why is Why.LOG_OPEN
+    # as a colleague who has that group may write the book
+    os.chown(book, -1, STRANGER)
+    book.chmod(0o664)
+    with Session(book) as session:
+        assert session.print_of(1) == "of a colleague"
+
+
+@NEEDS_ROOT
+def test_a_log_without_work_is_made_anew_where_others_could_write_it(
+    book: Path, tmp_path: Path
+) -> None:
+    forged = Path(shutil.copyfile(book, tmp_path / "forged"))
+    killed_after(forged, "of the stranger")
+    log = Path(f"{book}-wal")
+    os.chown(book, -1, STRANGER)
+    book.chmod(0o664)
+    Session(book).close()
+    book.chmod(0o644)
+    # who opened it while that was permitted writes into what nobody reads any more
+    with open(log, "r+b") as opened_before:
+        Session(book).close()
+        opened_before.write(Path(f"{forged}-wal").read_bytes())
+    assert braildesk.check(book) == 1
+    assert stat.S_IMODE(log.stat().st_mode) == 0o644
+
+
+@NEEDS_ROOT
+def test_a_log_is_there_as_its_book_is_before_the_program_opens_that(
+    book: Path, tmp_path: Path
+) -> None:
+    # whose files get its own group, which may not write the book
+    tmp_path.chmod(0o2775)
+    os.chown(tmp_path, -1, STRANGER)
+    book.chmod(0o664)
+    noting, noted = tmp_path / "noting", tmp_path / "noted"
+    noting.write_text(
+        f"#!/bin/sh\nstat -c '%a %g %s' '{book}-wal' > '{noted}'\nexec '{braildesk.find()}' \"$@\"\n"
+    )
+    noting.chmod(0o755)
+    with Session(book, noting) as session:
+        kill(session)
+    assert noted.read_text() == f"664 {book.stat().st_gid} 0\n"
+    assert braildesk.check(book) == 1
 
 
 def test_no_log_elsewhere_gets_a_mode_where_the_folder_of_a_book_is_exchanged(

@@ -21,6 +21,7 @@ class Why(StrEnum):
     NO_FILE = "no file"
     DENIED = "not permitted"
     LOG_DENIED = "log not permitted"
+    LOG_OPEN = "log open to others"
     NO_DATABASE = "no database"
     READ_ONLY = "read-only"
     NO_ROOM = "no room"
@@ -155,6 +156,10 @@ UNOPENED = MappingProxyType(
         " for leave to read and write it and to write in its folder.",
         Why.LOG_DENIED: "You aren't permitted to read and write {log}, in which the newest work of"
         " {path} is looked for. {nothing} Ask who owns {log} for leave to do so.",
+        Why.LOG_OPEN: "{log}, in which the newest work of {path} is looked for, may be written by people"
+        " who may not write the book, as after a change of its permissions. They may have put"
+        " something else there. {nothing} If you know that the work is yours, take it by this command,"
+        " and open the book again: {take_log}. If you don't, move {log} away, and go on without it.",
         Why.READ_ONLY: "{path} is on a disk that can only be read, and a book is opened where it can"
         " be written. {nothing} Copy the book to another disk.",
         Why.NO_ROOM: "There is no room on the disk of {path}. {nothing} Make room there,"

@@ -27,7 +27,13 @@ from braildesk.protocol.sentences import (
     said_of_room,
 )
 from braildesk.text import limits
-from braildesk.text.characters import around, code_point, named, shortened
+from braildesk.text.characters import (
+    around,
+    code_point,
+    named,
+    shortened,
+    visible,
+)
 
 
 def worded(refusal: Refusal) -> str:
@@ -180,6 +186,17 @@ class _Fields:
     def log(self) -> str:
         """The path of the log beside the file of a book."""
         return self._beside(log_path)
+
+    @property
+    def take_log(self) -> str:
+        """The command that puts a copy which nobody else may write in the place of the log."""
+        import shlex  # which few refusals need
+
+        path = self._asked.path if isinstance(self._asked, AskedOfFile) else "BOOK"
+        log = log_path(path)
+        own = f"{log}-own"
+        copied = shlex.join(["install", "-m", "600", "--", log, own])
+        return visible(f"{copied} && {shlex.join(['mv', '-f', '--', own, log])}")
 
     @property
     def journal(self) -> str:

@@ -1,0 +1,55 @@
+"""Who may write a file, by its mode and by the list of access (ACL) that it may have."""
+
+import os
+import pwd
+from typing import BinaryIO
+
+from braildesk.workshop import access_list
+
+#: Whom an entry of a list is about: a user, the group of the file, another group, or all who aren't
+#: named; and what users and groups that are named may do at most.
+_USER, _OWN_GROUP, _GROUP, _MOST, _OTHERS = 0x02, 0x04, 0x08, 0x10, 0x20
+#: A user or a group by its number, or anybody.
+_Writer = tuple[int, int]
+_ANYBODY = (_OTHERS, 0)
+
+
+def has_more_writers(file: BinaryIO, other: BinaryIO) -> bool:
+    """Whether somebody may write a file who may not write another one."""
+    known = _writers(other)
+    if _ANYBODY in known:
+        return False
+    return not all(_is_one_of(known, each) for each in _writers(file))
+
+
+def _writers(file: BinaryIO) -> frozenset[_Writer]:
+    """Who may write a file, with its owner, who may give that leave at any time."""
+    found = os.fstat(file.fileno())
+    by_mode = [(_OWN_GROUP, found.st_mode >> 3, 0), (_OTHERS, found.st_mode, 0)]
+    listed = access_list(file.fileno()) or by_mode
+    most = next((may for tag, may, _ in listed if tag == _MOST), os.W_OK)
+    writers = {(_USER, found.st_uid)}
+    for tag, may, whom in listed:
+        if tag == _OTHERS and may & os.W_OK:
+            writers.add(_ANYBODY)
+        elif tag == _OWN_GROUP and may & most & os.W_OK:
+            writers.add((_GROUP, found.st_gid))
+        elif tag in (_USER, _GROUP) and may & most & os.W_OK:
+            writers.add((tag, whom))
+    return frozenset(writers)
+
+
+def _is_one_of(known: frozenset[_Writer], writer: _Writer) -> bool:
+    """Whether somebody is among those who may write a file, as this user and root are."""
+    kind, number = writer
+    if writer in known or kind != _USER:
+        return writer in known
+    if number in (0, os.geteuid()):
+        return True
+    try:
+        user = pwd.getpwuid(number)
+        groups = os.getgrouplist(user.pw_name, user.pw_gid)
+    except (KeyError, OSError):
+        # a user whom the system doesn't know is in no group
+        return False
+    return any((_GROUP, group) in known for group in groups)
