@@ -6,7 +6,7 @@ from threading import Event
 from types import SimpleNamespace
 
 import pytest
-from PyQt6.QtCore import QPoint, QSize, QTimer
+from PyQt6.QtCore import QPoint, QSize, Qt, QTimer
 from PyQt6.QtWidgets import (
     QAbstractScrollArea,
     QApplication,
@@ -164,3 +164,25 @@ def _is_cut(part: QLabel | QPushButton) -> bool:
     if isinstance(part, QLabel):
         return part.height() < part.heightForWidth(part.width())
     return part.width() < part.minimumSizeHint().width()
+
+
+def test_a_dialog_shows_words_of_a_book_as_they_are(application: QApplication) -> None:
+    asked = "The note of a mark on “<h1>R&D</h1> <img src=/tmp/a>”:"
+    over = QWidget()
+    found: list[str] = []
+
+    def look() -> None:
+        dialog = application.activeModalWidget()
+        label = dialog.findChild(QLabel) if dialog else None
+        if dialog is None or not isinstance(label, QLabel):
+            QTimer.singleShot(10, look)
+            return
+        # a label shows that by which it may be copied
+        label.setTextInteractionFlags(Qt.TextInteractionFlag.TextSelectableByMouse)
+        label.setSelection(0, len(asked))
+        found.append(label.selectedText())
+        dialog.close()
+
+    QTimer.singleShot(0, look)
+    dialogs.text(over, "Mark", asked)
+    assert found == [asked]

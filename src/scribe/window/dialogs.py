@@ -68,6 +68,8 @@ def _fit(dialog: QDialog, width: int = 0, height: int = 0) -> None:
     assert screen is not None
     room = screen.availableGeometry().adjusted(0, 0, *_LESS_FOR_FRAME).size()
     for label in _within(dialog, QLabel):
+        # words of a book that look like those of a page would be taken for that, with its pictures
+        label.setTextFormat(Qt.TextFormat.PlainText)
         label.setWordWrap(True)
         letters = label.fontMetrics()
         longest = max(map(letters.horizontalAdvance, label.text().split("\n")))
@@ -155,7 +157,7 @@ def _line(
 ) -> str | None:
     over = dialog.parentWidget()
     dialog.setWindowTitle(title)
-    dialog.setLabelText(asked)
+    dialog.setLabelText(_whole(asked))
     dialog.setTextValue(first)
     _fit(dialog, _WIDTH)
 
@@ -173,13 +175,18 @@ def _in_a_line(typed: str) -> str:
     return " ".join(lines_of(typed))
 
 
+def _whole(asked: str) -> str:
+    """Words of which none is the key of a field, as the letter after “&” is otherwise."""
+    return asked.replace("&", "&&")
+
+
 def one_of(
     over: QWidget, title: str, asked: str, names: Sequence[str], first: int
 ) -> str | None:
     """Asks for one of several names; none where it is given up."""
     dialog = QInputDialog(over)
     dialog.setWindowTitle(title)
-    dialog.setLabelText(asked)
+    dialog.setLabelText(_whole(asked))
     dialog.setComboBoxItems(names)
     dialog.setTextValue(names[first])
     longest = max(map(dialog.fontMetrics().horizontalAdvance, (asked, *names)))
