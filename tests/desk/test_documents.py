@@ -687,6 +687,8 @@ def test_blanks_of_all_widths_are_one_blank(tmp_path: Path) -> None:
         ("", "cp1252"),
         ("", "utf-8-sig"),
         ("<meta charset=undefined>", "utf-8"),
+        ("<meta charset=undefined->", "utf-8"),
+        ("<meta charset=-unicode_escape>", "utf-8"),
         ("<meta charset=unicode_escape>", "utf-8"),
         ("<meta charset=utf-16/>", "utf-8"),
         ("<meta charset=utf-16>", "utf-16"),

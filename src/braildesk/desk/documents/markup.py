@@ -1,5 +1,6 @@
 """The tags of a page of HTML, and the characters of the bytes that it is."""
 
+import codecs
 import re
 from collections.abc import Iterable, Mapping
 from contextlib import suppress
@@ -15,7 +16,7 @@ _WIDER = {
     "gb2312": "gb18030",
     "gbk": "gb18030",
     "shift_jis": "cp932",
-    "euc-kr": "cp949",
+    "euc_kr": "cp949",
 }
 #: Encodings in which no page can say what it is encoded in, and some that are Python's own.
 _OF_NO_PAGE = re.compile(
@@ -62,11 +63,9 @@ def characters_of_page(data: bytes) -> str:
     pandoc takes what isn't UTF-8 for Latin 1, with a warning.
     """
     names = [_own_name(data)]
-    if said := _CHARSET.search(data[:_FRONT]):
-        named = said[1].decode().lower()
-        if not _OF_NO_PAGE.fullmatch(named):
-            place = len(names) if _OF_ONE_BYTE.fullmatch(named) else 0
-            names.insert(place, _WIDER.get(named, named))
+    if named := _said_name(data):
+        place = len(names) if _OF_ONE_BYTE.fullmatch(named) else 0
+        names.insert(place, _WIDER.get(named, named))
     found = _strictly(data, names) or _mostly(data, names)
     return found or _strictly(data, ["cp1252"]) or decoded(data)
 
@@ -74,6 +73,18 @@ def characters_of_page(data: bytes) -> str:
 def characters_of_text(data: bytes) -> str:
     """The characters of a text by the mark at its front, else in UTF-8; raises `UnreadableText`."""
     return _strictly(data, [_own_name(data)]) or decoded(data)
+
+
+def _said_name(data: bytes) -> str | None:
+    """What the front of a page says that it is encoded in, by the name that Python has for that."""
+    if not (said := _CHARSET.search(data[:_FRONT])):
+        return None
+    try:
+        # which takes strokes at either end for nothing
+        named = codecs.lookup(said[1].decode()).name
+    except LookupError:
+        return None
+    return None if _OF_NO_PAGE.fullmatch(named) else named
 
 
 def _own_name(data: bytes) -> str:
