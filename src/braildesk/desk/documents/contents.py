@@ -12,7 +12,6 @@ from dataclasses import dataclass, field
 from functools import partial
 from itertools import islice
 from pathlib import PurePosixPath
-from xml.etree import ElementTree
 from xml.etree.ElementTree import Element
 
 from braildesk.desk.documents.kinds import (
@@ -20,6 +19,7 @@ from braildesk.desk.documents.kinds import (
     NoDocument,
     WhyNot,
     part_of,
+    root_of,
     unpacked,
 )
 from braildesk.desk.documents.markup import (
@@ -293,7 +293,7 @@ def _words(text: str) -> list[str]:
 
 
 def _root(container: zipfile.ZipFile, name: str) -> Element:
-    return ElementTree.fromstring(part_of(container, name))
+    return root_of(part_of(container, name))
 
 
 def _of_docx(container: zipfile.ZipFile, found: Contents) -> None:

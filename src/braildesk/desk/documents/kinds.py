@@ -12,6 +12,7 @@ from typing import TYPE_CHECKING
 from braildesk.desk.manuscript import UnreadableText
 
 if TYPE_CHECKING:
+    from xml.etree.ElementTree import Element
     from zipfile import ZipFile
 
 
@@ -104,6 +105,8 @@ _MEDIA = frozenset(
     " .bin".split()
 )
 
+#: How deeply the elements of a part stand within each other at most; in most manuscripts that is 30.
+_LEVELS = 300
 #: How many bytes of the front of a file are looked at.
 _FRONT = 1024
 _ZIP = b"PK\x03\x04"
@@ -250,6 +253,23 @@ def part_of(container: "ZipFile", name: str) -> bytes:
         return part.read(MOST_BYTES)
 
 
+def root_of(part: bytes) -> "Element":
+    """The elements of a part in XML; `NoDocument` if they stand too deeply within each other.
+
+    What is asked of each with all that it has would take for ever.
+    """
+    # imported here, since a text needs none of it
+    from xml.etree import ElementTree
+
+    root = ElementTree.fromstring(part)
+    row = [root]
+    for _ in range(_LEVELS):
+        row = [inner for element in row for inner in element]
+        if not row:
+            return root
+    raise NoDocument(WhyNot.TOO_DEEP)
+
+
 def _kind_of_zip(data: bytes) -> ManuscriptKind:
     with unpacked(repacked(data)) as container:
         names = frozenset(container.namelist())
@@ -274,15 +294,13 @@ def _judge_open(
     container: "ZipFile", kind: ManuscriptKind, names: frozenset[str]
 ) -> None:
     """`NoDocument` if the parts of a container are encrypted each by itself."""
-    from xml.etree import ElementTree
-
     manifest, rights = "META-INF/manifest.xml", "META-INF/encryption.xml"
     if kind is ManuscriptKind.ODT and manifest in names:
-        root = ElementTree.fromstring(part_of(container, manifest))
+        root = root_of(part_of(container, manifest))
         if next(root.iterfind(".//{*}encryption-data"), None) is not None:
             raise NoDocument(WhyNot.ENCRYPTED)
     if kind is ManuscriptKind.EPUB and rights in names:
-        root = ElementTree.fromstring(part_of(container, rights))
+        root = root_of(part_of(container, rights))
         for data in root.iterfind("{*}EncryptedData"):
             method = data.find("{*}EncryptionMethod")
             if method is None or method.get("Algorithm") not in _HIDDEN_FONTS:

@@ -8,13 +8,12 @@ import re
 from collections.abc import Callable, Iterator, Mapping, Sequence
 from dataclasses import dataclass, field
 from io import BytesIO
-from xml.etree import ElementTree
 from xml.etree.ElementTree import Element, ParseError
 from xml.sax.saxutils import escape
 from zipfile import ZipFile
 
 from braildesk.desk.documents import word_print
-from braildesk.desk.documents.kinds import is_media, part_of, unpacked
+from braildesk.desk.documents.kinds import is_media, part_of, root_of, unpacked
 from braildesk.desk.documents.reading import Loss, LossKind, plain, whole
 from braildesk.desk.documents.tree import roman
 from braildesk.desk.documents.xml_writing import Rewriting, rewritten, transitional
@@ -105,7 +104,7 @@ def with_numbers(data: bytes, bullet: str) -> tuple[bytes, list[Loss]]:
         signs: list[Loss] = []
         for name, part in parts.items():
             if _TEXTS.fullmatch(name):
-                root = ElementTree.fromstring(part)
+                root = root_of(part)
                 if not root.tag.startswith(_W):
                     return data, []
                 part = _numbered(part, root, iter(lists.labels(root)))
@@ -243,8 +242,8 @@ class _Lists:
     """The lists of a document, and the styles whose paragraphs are in them."""
 
     def __init__(self, numbering: bytes, styles: bytes | None, bullet: str) -> None:
-        self._lists = dict(_lists(ElementTree.fromstring(numbering)))
-        known = Element("") if styles is None else ElementTree.fromstring(styles)
+        self._lists = dict(_lists(root_of(numbering)))
+        known = Element("") if styles is None else root_of(styles)
         self._styles = dict(_styles(known))
         #: The style of the paragraphs that name none.
         self._usual = next(_usual(known), "")

@@ -8,13 +8,12 @@ import re
 from collections.abc import Callable, Iterator, Mapping
 from dataclasses import dataclass, field
 from io import BytesIO
-from xml.etree import ElementTree
 from xml.etree.ElementTree import Element
 from xml.sax.saxutils import escape
 from zipfile import ZipFile
 
 from braildesk.desk.documents import tables_of_odt
-from braildesk.desk.documents.kinds import is_media, part_of, unpacked
+from braildesk.desk.documents.kinds import is_media, part_of, root_of, unpacked
 from braildesk.desk.documents.reading import Loss, LossKind, plain, whole
 from braildesk.desk.documents.styles_of_odt import WordStyles
 from braildesk.desk.documents.tree import letters, roman
@@ -89,8 +88,8 @@ def with_odt_numbers(
             name: b"" if is_media(name) else part_of(container, name)
             for name in container.namelist()
         }
-        root = ElementTree.fromstring(parts[_CONTENT])
-        styles = ElementTree.fromstring(parts.get(_STYLES) or b"<none/>")
+        root = root_of(parts[_CONTENT])
+        styles = root_of(parts.get(_STYLES) or b"<none/>")
         numbering = _Numbering((styles, root), bullet)
         labels = iter(numbering.labels(root))
 

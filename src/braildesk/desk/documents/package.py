@@ -13,7 +13,7 @@ from xml.etree import ElementTree
 from xml.etree.ElementTree import Element, SubElement
 from zipfile import ZipFile
 
-from braildesk.desk.documents.kinds import part_of
+from braildesk.desk.documents.kinds import part_of, root_of
 
 _PAGE = "application/xhtml+xml"
 
@@ -113,4 +113,4 @@ def _is_list(item: Element) -> bool:
 
 
 def _root(container: ZipFile, part: str) -> Element:
-    return ElementTree.fromstring(part_of(container, part))
+    return root_of(part_of(container, part))
