@@ -19,7 +19,8 @@ import pytest
 from braildesk import Mark, Paragraph, Session, Style, Table
 from braildesk.desk.documents import contents
 from braildesk.desk.documents.contents import contents_of, missing
-from braildesk.desk.documents.kinds import ManuscriptKind
+from braildesk.desk.documents.kinds import ManuscriptKind, NoDocument, WhyNot
+from braildesk.desk.documents.numbers import with_numbers
 from braildesk.desk.documents.pages import readable_page
 from braildesk.desk.documents.reading import Missing
 from braildesk.desk.find import Hit
@@ -37,6 +38,8 @@ from braildesk.text.spans import find_spans
 from braildesk.text.wrapping import wrap
 from scribe.words.find import word_lines
 
+from handmade import docx, paragraph, run
+
 # of a processor: far more than what is wanted takes on a busy machine, and far less than its square
 SECONDS = 20
 
@@ -51,6 +54,36 @@ def test_each_character_that_a_table_lacks_is_found_in_one_walk_along_its_line()
     assert [fault.position.column for fault in found] == list(range(1, 2_001))
     steps = after.hits + after.misses - before.hits - before.misses
     assert steps < 4 * len(lacking)
+
+
+def test_styles_that_are_based_on_each_other_are_gone_through_once(
+    tmp_path: Path,
+) -> None:
+    count = 1_000
+    styles = "".join(
+        f'<w:style w:type="paragraph" w:styleId="s{n}"><w:basedOn w:val="s{n + 1}"/></w:style>'
+        for n in range(count)
+    )
+    path = docx(
+        tmp_path / "moon.docx",
+        paragraph(run("moon"), style="s0") * count,
+        styles=styles,
+    )
+    started = time.process_time()
+    assert with_numbers(path.read_bytes(), "*")[1] == []
+    assert time.process_time() - started < SECONDS
+
+
+def test_elements_that_stand_within_each_other_without_end_are_refused(
+    tmp_path: Path,
+) -> None:
+    body = "<w:p>" * 20_000 + "</w:p>" * 20_000
+    path = docx(tmp_path / "moon.docx", body)
+    started = time.process_time()
+    with pytest.raises(NoDocument) as found:
+        with_numbers(path.read_bytes(), "*")
+    assert found.value.why is WhyNot.TOO_DEEP
+    assert time.process_time() - started < SECONDS
 
 
 @pytest.mark.parametrize(

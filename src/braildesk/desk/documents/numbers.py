@@ -58,6 +58,8 @@ _BULLET = "bullet"
 _PADDED = re.compile("(0*)1(?:,.*)?")
 #: The greatest number of a list in Word, and the longest form of a number.
 _MOST, _FORM = 32_767, 255
+#: How many styles are based on each other at most, also where the last one is based on the first.
+BASES = 100
 #: What a paragraph has whose end is deleted or moved away.
 _GONE = ("del", "moveFrom")
 _OFF = ("0", "false", "off")
@@ -276,7 +278,7 @@ class _Lists:
             return "", 0
         said = [_style(properties, _value(properties, "pStyle") or self._usual)]
         names: list[str] = []
-        while (base := said[-1].base) in self._styles and base not in names:
+        while (base := said[-1].base) in self._styles and len(names) < BASES:
             names.append(base)
             said.append(self._styles[base])
         name = next((each.named for each in said if each.named), "")

@@ -14,6 +14,7 @@ from zipfile import ZipFile
 
 from braildesk.desk.documents import tables_of_odt
 from braildesk.desk.documents.kinds import is_media, part_of, root_of, unpacked
+from braildesk.desk.documents.numbers import BASES
 from braildesk.desk.documents.reading import Loss, LossKind, plain, whole
 from braildesk.desk.documents.styles_of_odt import WordStyles
 from braildesk.desk.documents.tree import letters, roman
@@ -340,12 +341,12 @@ class _Numbering:
 
     def _has_own_list(self, style: str) -> bool:
         """Whether a style of headings, of the text's own, says that they are in a list, or in none."""
-        seen: set[str] = set()
-        while style in self._styles and style not in seen:
-            seen.add(style)
-            own, style = self._styles[style]
+        for _ in range(BASES):
+            own, style = self._styles.get(style, (None, ""))
             if own is not None:
                 return True
+            if not style:
+                break
         return False
 
     def _put(self, paragraph: Element, place: _Place, start: str | None) -> None:
