@@ -257,7 +257,7 @@ def mode_of(file: int | Path, found: os.stat_result) -> int:
 
 
 def access_list(file: int | Path) -> list[tuple[int, int, int]]:
-    """The entries of the list of access that a file has: whom each is about, what that one may do, a number."""
+    """The entries of the list of access that a file has: whom each is about, what for, and a number."""
     try:
         listed = os.getxattr(file, _ACL)
     except OSError:
