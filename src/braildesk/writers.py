@@ -1,7 +1,6 @@
 """Who may write a file, by its mode and by the list of access (ACL) that it may have."""
 
 import os
-import pwd
 from typing import BinaryIO
 
 from braildesk.workshop import access_list
@@ -46,6 +45,8 @@ def _is_one_of(known: frozenset[_Writer], writer: _Writer) -> bool:
         return writer in known
     if number in (0, os.geteuid()):
         return True
+    import pwd  # which few openings need
+
     try:
         user = pwd.getpwuid(number)
         groups = os.getgrouplist(user.pw_name, user.pw_gid)
