@@ -133,6 +133,38 @@ def test_a_page_of_tables_with_far_more_places_than_cells_is_refused(rows: str) 
     assert found.value.why is WhyNot.TABLES
 
 
+def rules(count: int) -> str:
+    """A line of dashes, which says how many columns there are."""
+    return "- " * count + "\n"
+
+
+@pytest.mark.parametrize(
+    "text",
+    [
+        f"{'a|' * 400}\n{'-|' * 400}\n" + "a|\n" * 400,
+        f"{'a ' * 400}\n{rules(400)}" + "a\n" * 400,
+        f"> +{'-+' * 400}\n" + "> |\n> +-+\n" * 400,
+        f"1. {'-' * 800}\n   {'a ' * 400}\n   {rules(400)}"
+        + "   a\n\n" * 400
+        + "   -\n",
+        rules(400) + "a\n\n" * 400 + rules(400),
+    ],
+    ids=["strokes", "simple", "grid", "parted", "without a head"],
+)
+def test_a_text_in_markdown_of_tables_with_far_more_places_than_cells_is_refused(
+    text: str,
+) -> None:
+    with pytest.raises(NoDocument) as found:
+        read_document(f"One\n\n{text}\n".encode(), ManuscriptKind.MARKDOWN)
+    assert found.value.why is WhyNot.TABLES
+
+
+def test_columns_of_a_table_in_markdown_are_not_counted_after_it() -> None:
+    text = f"{'a|' * 400}\n{'-|' * 400}\n\n" + "a\n\n" * 400 + f"{rules(400)}\nb\n"
+    found = read_document(text.encode(), ManuscriptKind.MARKDOWN)
+    assert found.texts[1:] == ["a"] * 400 + ["b"]
+
+
 @pytest.mark.parametrize(
     "width",
     [

@@ -21,6 +21,7 @@ from braildesk.desk.documents.kinds import (
     repacked,
 )
 from braildesk.desk.documents.markdown_notes import with_marks, without_marks
+from braildesk.desk.documents.markdown_tables import check_tables
 from braildesk.desk.documents.markup import characters_of_page, characters_of_text
 from braildesk.desk.documents.notes import with_notes
 from braildesk.desk.documents.numbers import with_numbers
@@ -146,6 +147,7 @@ def _readable(data: bytes, kind: ManuscriptKind) -> tuple[bytes, list[Loss]]:
         return pages.readable_page(data.decode()).encode(), []
     if kind is ManuscriptKind.MARKDOWN:
         text, repeated = with_marks(data.decode())
+        check_tables(text)
         return text.encode(), repeated
     return data, []
 

@@ -295,7 +295,7 @@ class _Reader:
             column = 0
             for _, _, height, width, content in row[1]:
                 column = _passed(going_on, column, cells)
-                text = " ".join(self._texts_of(content))
+                text = " ".join(self._texts_of(content)) if content else ""
                 cells.append(text)
                 if height > 1:
                     going_on[column] = (height, width)
