@@ -65,8 +65,10 @@ def _allow_no_more(what: int, most: str) -> None:
     if most == "-":
         return
     _, limit = resource.getrlimit(what)
-    found = int(most) if limit == resource.RLIM_INFINITY else min(int(most), limit)
-    resource.setrlimit(what, (found, found))
+    known = int(most) + 1 if limit == resource.RLIM_INFINITY else limit
+    found = min(int(most), known)
+    # beyond the second one of time it is killed without a word of why
+    resource.setrlimit(what, (found, min(found + 1, known)))
 
 
 if __name__ == "__main__":

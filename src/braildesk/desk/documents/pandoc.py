@@ -29,9 +29,12 @@ from braildesk.desk.manuscript import UnreadableText
 
 #: How long a document may take, in seconds of a processor and by the clock.
 _SECONDS = 120
+#: How many seconds of a processor pandoc may take for a small one, and for how many bytes one more: it
+#: takes hours for a few brackets that nothing closes.
+_LEAST_SECONDS, _BYTES_A_SECOND = 20, 20_000
 #: How much pandoc may answer; the tree of a book is some fifty times as long as its print.
 _TREE_BYTES = 512 << 20
-_LIMITS = Limits(memory=4 << 30, seconds=_SECONDS, written=_TREE_BYTES)
+_MEMORY = 4 << 30
 #: What pandoc calls a kind where it isn't the name of it alone: its own reading of notes drops numbers,
 #: and elements that it doesn't know would be no more than their tags.
 _FROM = {ManuscriptKind.EPUB: "epub-epub_html_exts-raw_html"}
@@ -58,10 +61,11 @@ def tree(data: bytes, kind: ManuscriptKind) -> tuple[dict[str, Any], frozenset[s
     if pandoc is None:
         raise NoConverter(kind, "pandoc", "pandoc")
     words = [pandoc, "--sandbox", "--from", _form(data, kind), "--to", "json"]
+    seconds = min(_LEAST_SECONDS + len(data) // _BYTES_A_SECOND, _SECONDS)
     with tempfile.TemporaryFile() as source:
         source.write(data)
         source.seek(0)
-        answered, said = _run("pandoc", words, source)
+        answered, said = _run("pandoc", words, source, seconds)
     try:
         found = json.loads(answered)
     except RecursionError as fault:
@@ -96,7 +100,7 @@ def as_docx(data: bytes, kind: ManuscriptKind) -> bytes:
         profile = Path(folder, "profile").as_uri()
         words = [program, f"-env:UserInstallation={profile}", "--headless"]
         words += ["--convert-to", "docx", "--outdir", f"{folder}/made", str(source)]
-        _run("LibreOffice", words, None)
+        _run("LibreOffice", words, None, _SECONDS)
         try:
             return Path(folder, "made", "manuscript.docx").read_bytes()
         except FileNotFoundError as fault:
@@ -104,16 +108,17 @@ def as_docx(data: bytes, kind: ManuscriptKind) -> bytes:
 
 
 def _run(
-    name: str, words: Sequence[str], source: IO[bytes] | None
+    name: str, words: Sequence[str], source: IO[bytes] | None, seconds: int
 ) -> tuple[bytes, bytes]:
-    """What a program answers, and says beside it.
+    """What a program answers, and says beside it, by so many seconds of a processor.
 
     ``UnreadableText`` if it fails, or is too slow or too large.
     """
+    limits = Limits(memory=_MEMORY, seconds=seconds, written=_TREE_BYTES)
     try:
         with tempfile.TemporaryFile() as output, tempfile.TemporaryFile() as errors:
             with subprocess.Popen(
-                confined(words, _LIMITS),
+                confined(words, limits),
                 stdin=subprocess.DEVNULL if source is None else source,
                 stdout=output,
                 stderr=errors,
