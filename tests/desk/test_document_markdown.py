@@ -43,7 +43,7 @@ def test_what_tags_of_html_lose_is_noted_as_that_of_markdown_is() -> None:
 
 def test_an_item_keeps_its_number_that_begins_with_a_tag_of_html() -> None:
     found = read(
-        "1. <p align=center>One</p>\n\n2. <!-- no print -->\n\n    two\n\n"
+        "1. <p align=center>One</p>\n\n2. <!-- </no print> -->\n\n    two\n\n"
         "3. <img src=a.png>\n\n4. <img src=a.png alt=Logo>\n\n5. <script>x</script>\n"
     )
     assert found.texts == ["1. One", "2. two", "3.", "4. [Logo]", "5."]
@@ -137,7 +137,34 @@ def test_what_nothing_ends_is_looked_for_in_a_time_that_grows_as_the_text_does(
     assert taken(10_000) < 30 * max(taken(1_000), 0.002)
 
 
+@pytest.mark.parametrize(
+    "note, texts",
+    [
+        ("[^a]: - far\n    - near", ["[1: \u2022 far \u2022 near]"]),
+        ("[^a]: Far\n    ===\n\n    near", ["[1: Far near]"]),
+        ("[^a]: far | near\n    ----|-----\n    off | on", ["[1: far; near off; on]"]),
+        ("[^a]:\n\n    far\nnear\n[^b]: off", ["[1: far near]"]),
+        ("> [^a]: far\n> near\n>\n>     off\n\non", ["[1: far near off]", "on"]),
+        ("[^b]: off\n\n    ever\n[^a]: > far", ["[1: far]"]),
+        ("# On\n[^a]: 1. far", ["[1: 1. far]", "On"]),
+        ("[moon]: a.md\n[^a]: far", ["[1: far]"]),
+    ],
+)
+def test_a_note_of_several_numbers_is_typed_once_whatever_it_begins_with(
+    note: str, texts: list[str]
+) -> None:
+    found = read(f"One[^a] and two[^a].\n\n{note}\n")
+    assert found.texts == ["One[1] and two[1].", *texts]
+    assert LossKind.NOTE_AGAIN not in [what for what, _ in lost(found)]
+
+
 def test_a_note_that_is_typed_after_each_of_its_numbers_is_noted() -> None:
-    found = read("One[^a] and two[^a].\n\n[^a]: - far\n    - near\n")
-    assert found.texts[0] == "One[1] and two[2]."
-    assert lost(found) == [(LossKind.NOTE_AGAIN, "[^a]: - far")]
+    found = read("One[^a] and two[^a].\n\non | off\n---|----\na | b\n[^a]: far\n")
+    notes = ["[1: far]", "[2: far]"]
+    assert found.texts == ["One[1] and two[2].", *notes, "on; off", "a; b"]
+    assert (LossKind.NOTE_AGAIN, "[^a]: far") in lost(found)
+
+
+def test_a_line_like_a_note_that_goes_on_with_a_text_is_no_note() -> None:
+    found = read("One[^a], two[^a]\n[^a]: three\n\n```\n[^a]: far\n```\n")
+    assert found.texts == ["One[^a], two[^a] [^a]: three", "[^a]: far"]

@@ -48,7 +48,7 @@ class RawHtml(Tags):
     def __init__(self, text: str) -> None:
         super().__init__()
         self.tags: list[RawTag] = []
-        self.has_print = bool(_WORDY_END.search(text))
+        self.has_print = False
         self.feed(text)
         self.close()
 
@@ -57,6 +57,11 @@ class RawHtml(Tags):
 
     def handle_endtag(self, tag: str) -> None:
         self.tags.append(RawTag(tag, True))
+
+    def parse_endtag(self, i: int) -> int:
+        # the reader of the library passes over what the end of an element has beside its name
+        self.has_print |= _WORDY_END.match(self.rawdata, i) is not None
+        return super().parse_endtag(i)
 
     def handle_data(self, data: str) -> None:
         self.has_print |= bool(data.strip())
