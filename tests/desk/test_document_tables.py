@@ -100,6 +100,21 @@ def test_cells_of_a_text_in_odt_that_go_on_over_rows_have_a_place_in_each(
     assert spans(found) == ["h", "b", "g", "n"]
 
 
+def test_a_row_and_a_cell_of_a_text_in_odt_that_stand_for_several_are_noted(
+    tmp_path: Path,
+) -> None:
+    several = 'table:table-cell table:number-columns-repeated="3"'
+    text = row(cell("a").replace("table:table-cell", several, 1), cell("b"))
+    text += row(cell("c"), f"<{several}/>", cell("d")).replace(
+        "<table:table-row", '<table:table-row table:number-rows-repeated="2"'
+    )
+    found = read_manuscript(
+        odt(tmp_path / "a.odt", f"<table:table>{text}</table:table>")
+    )
+    same = [loss.words for loss in found.losses if loss.what is LossKind.SAME]
+    assert (same, found.missing) == (["a", "c d"], ())
+
+
 #: Tables of few characters that have a million places.
 HUGE_TABLES = [
     row(*[cell("a", 1_000)] * 1_000) + row(covered(1_000)) * 999,

@@ -179,3 +179,57 @@ def test_the_reading_of_characters_stands_in_brackets_after_them(
     found = read_manuscript(docx(tmp_path / "a.docx", body))
     assert found.texts == ["One 漢(kan)字.", "two"]
     assert found.missing == (Missing("sun Wingdings_F04A", "", "two"),)
+
+
+def field(code: str, shown: str) -> str:
+    """A field that shows some text, by its code."""
+
+    def mark(kind: str) -> str:
+        return f'<w:r><w:fldChar w:fldCharType="{kind}"/></w:r>'
+
+    coded = f'<w:r><w:instrText xml:space="preserve">{code}</w:instrText></w:r>'
+    return f"{mark('begin')}{coded}{mark('separate')}{run(shown)}{mark('end')}"
+
+
+def test_a_note_of_two_numbers_and_a_number_in_a_field_are_noted(
+    tmp_path: Path,
+) -> None:
+    simple = f'<w:fldSimple w:instr="NOTEREF _Ref1 \\h">{run("3")}</w:fldSimple>'
+    gone = f"<w:del>{note(2)}</w:del>"
+    body = paragraph(run("One"), note(1), run(" and"), note(1), gone)
+    body += paragraph(run("Two"), field(" NOTEREF _Ref1 \\h ", "1"), run(" pages"))
+    body += paragraph(run("Three"), field(" PAGEREF _Ref1 ", "7"), note(2), simple)
+    notes = [(1, "A note."), (2, "Another.")]
+    found = read_manuscript(docx(tmp_path / "a.docx", body, notes))
+    assert (found.texts, found.missing) == (
+        ["One[1] and[2]", "[1: A note.]", "[2: A note.]"]
+        + ["Two1 pages", "Three7[3]3", "[3: Another.]"],
+        (),
+    )
+    assert [(loss.what, loss.words) for loss in found.losses] == [
+        (LossKind.NOTE_AGAIN, "A note."),
+        (LossKind.NOTE_NUMBER, "Two1 pages"),
+        (LossKind.NOTE_NUMBER, "Three73"),
+    ]
+
+
+def style(name: str, base: str, inner: str = "") -> str:
+    """A style of paragraphs, whose identity has no blanks, based on another."""
+    identity = name.replace(" ", "")
+    return (
+        f'<w:style w:type="paragraph" w:styleId="{identity}"><w:name w:val="{name}"/>'
+        f'<w:basedOn w:val="{base}"/><w:rPr>{inner}</w:rPr></w:style>'
+    )
+
+
+def test_a_paragraph_is_noted_that_is_in_italics_by_its_style(tmp_path: Path) -> None:
+    styles = style("Letter", "Body", "<w:i/>") + style("Letter End", "Letter")
+    styles += style("Plain", "Letter", '<w:i w:val="0"/>') + style("Round", "Round")
+    styles += style("heading 4", "Letter", "<w:i/>")
+    names = ("Letter", "LetterEnd", "Plain", "Round", "heading4", "Absent")
+    body = "".join(paragraph(run(f"In {name}"), style=name) for name in names)
+    found = read_manuscript(docx(tmp_path / "a.docx", body, styles=styles))
+    assert [loss.words for loss in found.losses if loss.what is LossKind.EMPHASIS] == [
+        "In Letter",
+        "In LetterEnd",
+    ]

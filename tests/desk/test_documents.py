@@ -988,8 +988,14 @@ def test_words_in_odt_are_emphasized_by_what_their_style_is_based_on(
         f'<text:p><text:span text:style-name="{name}">{name}</text:span> end</text:p>'
         for name in ("Oblique", "Far", "Red", "Bare", "Upright", "Raised")
     )
+    sloped = style("Sloped", "None", 'fo:font-style="italic"') + style(
+        "Whole", "Sloped"
+    )
+    named += sloped.replace('"text"', '"paragraph"')
+    text += '<text:p text:style-name="Whole">All of it</text:p>'
+    text += '<text:h text:outline-level="1" text:style-name="Whole">A heading</text:h>'
     found = read_manuscript(odt(tmp_path / "a.odt", text, own, named))
-    emphasized = ["Oblique", "Far", "Red", "Bare", "Raised"]
+    emphasized = ["Oblique", "Far", "Red", "Bare", "Raised", "All of it"]
     assert lost(found, LossKind.EMPHASIS) == emphasized
     assert lost(found, LossKind.SUPERSCRIPT) == ["Raised"]
 
@@ -1011,7 +1017,7 @@ def test_each_style_of_an_odt_is_looked_at_once_however_many_are_based_on_it(
         return emphasis(style)
 
     monkeypatch.setattr(styles_of_odt, "_emphasis", noted)
-    assert len(styles_of_odt.WordStyles(root).written(root)) == 100
+    assert len(styles_of_odt.Styles("text", root).written(root)) == 100
     assert len(looked_at) == 100
 
 

@@ -53,6 +53,10 @@ _SAID = {
         "1 note to which several numbers lead is typed after each of them",
         "{} notes to which several numbers lead are typed after each of them",
     ),
+    LossKind.NOTE_NUMBER: (
+        "1 further number of a note is typed without brackets, as the document shows it",
+        "{} further numbers of notes are typed without brackets, as the document shows them",
+    ),
     LossKind.HIDDEN: (
         "1 piece of text that is hidden in the document is typed too",
         "{} pieces of text that are hidden in the document are typed too",
@@ -93,6 +97,10 @@ _SAID = {
     LossKind.SPAN: (
         "1 cell of a table goes on over several rows, and is typed in the first of them",
         "{} cells of tables go on over several rows, and are typed in the first of these",
+    ),
+    LossKind.SAME: (
+        "1 cell or row of a table that print has several times is typed once",
+        "{} cells or rows of tables that print has several times are typed once",
     ),
     LossKind.BOX: (
         "1 box of a form is typed as a sign",

@@ -16,6 +16,7 @@ from braildesk.desk.documents import word_print
 from braildesk.desk.documents.kinds import is_media, part_of, root_of, unpacked
 from braildesk.desk.documents.reading import Loss, LossKind, plain, whole
 from braildesk.desk.documents.tree import roman
+from braildesk.desk.documents.word_notes import notes_again
 from braildesk.desk.documents.xml_writing import Rewriting, rewritten, transitional
 
 _W = "{http://schemas.openxmlformats.org/wordprocessingml/2006/main}"
@@ -86,7 +87,7 @@ _FORMS: Mapping[str, Callable[[int], str]] = {
 
 def with_numbers(data: bytes, bullet: str) -> tuple[bytes, list[Loss]]:
     """A document without lists, whose paragraphs begin with their numbers; and those not as in print,
-    and the signs of boxes.
+    the signs of boxes, and the notes to which several numbers lead.
 
     Its texts have nothing around or in them of which pandoc knows nothing. It has no pictures any more,
     which aren't looked at. One whose lists can't be read, or whose tags aren't Word's, is left as it is.
@@ -100,21 +101,25 @@ def with_numbers(data: bytes, bullet: str) -> tuple[bytes, list[Loss]]:
         }
         numbering = parts.pop(_NUMBERING, None)
         try:
-            lists = _Lists(numbering or b"<none/>", parts.get(_STYLES), bullet)
+            styles = root_of(parts.get(_STYLES) or b"<none/>")
+            lists = _Lists(numbering or b"<none/>", styles, bullet)
         except ParseError:
             return data, []
-        signs: list[Loss] = []
+        losses: list[Loss] = []
+        roots: list[Element] = []
         for name, part in parts.items():
             if _TEXTS.fullmatch(name):
                 root = root_of(part)
                 if not root.tag.startswith(_W):
                     return data, []
                 part = _numbered(part, root, iter(lists.labels(root)))
-                signs += word_print.signs(root)
+                losses += word_print.signs(root)
+                losses += word_print.italics(root, styles)
+                roots.append(root)
             elif name == _STYLES:
                 part = rewritten(part, Rewriting(prefixes=_PREFIXES))
             other.writestr(name, part)
-    return made.getvalue(), [*lists.losses, *signs]
+    return made.getvalue(), [*lists.losses, *losses, *notes_again(roots)]
 
 
 def _numbered(part: bytes, root: Element, labels: Iterator[str]) -> bytes:
@@ -243,12 +248,11 @@ def _start(found: _List, level: int) -> int:
 class _Lists:
     """The lists of a document, and the styles whose paragraphs are in them."""
 
-    def __init__(self, numbering: bytes, styles: bytes | None, bullet: str) -> None:
+    def __init__(self, numbering: bytes, styles: Element, bullet: str) -> None:
         self._lists = dict(_lists(root_of(numbering)))
-        known = Element("") if styles is None else root_of(styles)
-        self._styles = dict(_styles(known))
+        self._styles = dict(_styles(styles))
         #: The style of the paragraphs that name none.
-        self._usual = next(_usual(known), "")
+        self._usual = next(_usual(styles), "")
         self._bullet = bullet
         #: The numbers that are in digits, as words and others are only in print.
         self.losses: list[Loss] = []

@@ -16,7 +16,7 @@ from braildesk.desk.documents import tables_of_odt
 from braildesk.desk.documents.kinds import is_media, part_of, root_of, unpacked
 from braildesk.desk.documents.numbers import BASES
 from braildesk.desk.documents.reading import Loss, LossKind, plain, whole
-from braildesk.desk.documents.styles_of_odt import WordStyles
+from braildesk.desk.documents.styles_of_odt import Styles, italics
 from braildesk.desk.documents.tree import letters, roman
 from braildesk.desk.documents.xml_writing import Rewriting, rewritten
 
@@ -95,7 +95,7 @@ def with_odt_numbers(
         labels = iter(numbering.labels(root))
 
         spans = tables_of_odt.Spans(root)
-        words = WordStyles(styles, root)
+        words = Styles("text", styles, root)
         replaced = words.written(root) | _notes_again(root, brackets) | _fields(root)
 
         def front_of(name: str) -> str:
@@ -107,7 +107,8 @@ def with_odt_numbers(
             elif name == _STYLES and (named := words.written(styles)):
                 part = _rewritten(part, styles, named)
             other.writestr(name, part)
-    return made.getvalue(), [*numbering.losses, *spans.losses]
+    losses = [*numbering.losses, *spans.losses, *italics(root, styles)]
+    return made.getvalue(), losses
 
 
 def _rewritten(

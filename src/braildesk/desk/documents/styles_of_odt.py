@@ -1,16 +1,26 @@
-"""The styles of words of a text in ODT, with what they have of those that they are based on.
+"""The styles of a text in ODT, with what they have of those that they are based on.
 
-pandoc finds emphasis that a style has itself, and looks no further; it knows none of styles that are
-based on each other, or on one that isn't there.
+pandoc finds emphasis that a style of words has itself, and looks no further; it knows none of styles that
+are based on each other, or on one that isn't there, and none of whole paragraphs.
 """
 
+from collections.abc import Iterator
 from copy import deepcopy
 from xml.etree import ElementTree
 from xml.etree.ElementTree import Element, SubElement
 
+from braildesk.desk.documents.reading import Loss, LossKind, plain
+
 _STYLE = "{urn:oasis:names:tc:opendocument:xmlns:style:1.0}"
 _FO = "{urn:oasis:names:tc:opendocument:xmlns:xsl-fo-compatible:1.0}"
+_TEXT = "{urn:oasis:names:tc:opendocument:xmlns:text:1.0}"
+_OFFICE = "{urn:oasis:names:tc:opendocument:xmlns:office:1.0}"
+#: What isn't typed.
+_GONE = (f"{_TEXT}tracked-changes", f"{_OFFICE}annotation")
 _PARENT, _PROPERTIES = f"{_STYLE}parent-style-name", f"{_STYLE}text-properties"
+_SLOPE, _ITALIC = f"{_FO}font-style", ("italic", "oblique")
+#: How many characters are shown of a paragraph.
+_SHOWN = 60
 #: What words that are emphasized, or stand above or below the line, have by their style.
 _EMPHASIS = (
     *(f"{_FO}{name}" for name in ("font-style", "font-weight", "font-variant")),
@@ -19,15 +29,29 @@ _EMPHASIS = (
 )
 
 
-class WordStyles:
-    """The styles of words that some parts of a text have, of which later parts go before others."""
+def italics(root: Element, *others: Element) -> Iterator[Loss]:
+    """The paragraphs of a text that are in italics as a whole, by its styles or those of other parts."""
+    styles = Styles("paragraph", *others, root)
+    gone = {
+        id(each) for tag in _GONE for part in root.iter(tag) for each in part.iter()
+    }
+    for paragraph in root.iter(f"{_TEXT}p"):
+        words = plain("".join(paragraph.itertext()).replace("\n", " "))[:_SHOWN]
+        emphasis = styles.emphasis(paragraph.get(f"{_TEXT}style-name", ""))
+        if words and id(paragraph) not in gone and emphasis.get(_SLOPE) in _ITALIC:
+            yield Loss(LossKind.EMPHASIS, words, words)
 
-    def __init__(self, *roots: Element) -> None:
+
+class Styles:
+    """The styles of a family that some parts of a text have, of which later parts go before others."""
+
+    def __init__(self, family: str, *roots: Element) -> None:
+        self._family = family
         self._styles = {
             style.get(f"{_STYLE}name", ""): style
             for root in roots
             for style in root.iter(f"{_STYLE}style")
-            if style.get(f"{_STYLE}family") == "text"
+            if style.get(f"{_STYLE}family") == family
         }
         #: The emphasis of styles that is known, by their identities.
         self._known: dict[int, dict[str, str]] = {}
@@ -37,8 +61,12 @@ class WordStyles:
         return {
             id(style): _written(style, self._whole(style))
             for style in root.iter(f"{_STYLE}style")
-            if style.get(f"{_STYLE}family") == "text" and _PARENT in style.attrib
+            if style.get(f"{_STYLE}family") == self._family and _PARENT in style.attrib
         }
+
+    def emphasis(self, name: str) -> dict[str, str]:
+        """The emphasis of a style by its name; none if there is no such style."""
+        return self._whole(self._styles[name]) if name in self._styles else {}
 
     def _whole(self, style: Element) -> dict[str, str]:
         """The emphasis of a style, with that of those it is based on."""

@@ -28,7 +28,7 @@ _MOST = 1_000
 
 
 class Spans:
-    """The cells of a text that go on over rows; raises `NoDocument` for too many empty places."""
+    """The cells of a text that go on over rows, or stand for several; raises `NoDocument` for too many empty places."""
 
     def __init__(self, root: Element) -> None:
         #: What stands ahead of elements, by their identities.
@@ -42,6 +42,7 @@ class Spans:
         # how many rows more the cell that begins at a column has
         going_on: dict[int, int] = {}
         for row in _rows(table):
+            self._note_same(row, "rows")
             begun: dict[int, int] = {}
             column = 0
             covered = sorted(going_on)
@@ -57,17 +58,23 @@ class Spans:
                     self.ahead[id(cell)] = _PLACE * places
                 else:
                     size.add_cell()
+                    self._note_same(cell, "columns")
                     if height > 1:
                         begun[column] = height
-                        self._note(cell)
+                        self._note(LossKind.SPAN, cell)
                 column = stop
             going_on = {each: left - 1 for each, left in going_on.items()} | begun
             going_on = {each: left for each, left in going_on.items() if left > 1}
 
-    def _note(self, cell: Element) -> None:
-        texts = ("".join(each.itertext()) for each in cell.iter(f"{_TEXT}p"))
+    def _note_same(self, element: Element, name: str) -> None:
+        """Notes a row or a cell that stands for several, of which pandoc reads one."""
+        if _count(element, f"number-{name}-repeated") > 1:
+            self._note(LossKind.SAME, element)
+
+    def _note(self, what: LossKind, element: Element) -> None:
+        texts = ("".join(each.itertext()) for each in element.iter(f"{_TEXT}p"))
         if words := plain(" ".join(texts).replace("\n", " ")):
-            self.losses.append(Loss(LossKind.SPAN, words, words))
+            self.losses.append(Loss(what, words, words))
 
 
 def _rows(table: Element) -> Iterator[Element]:

@@ -1,10 +1,12 @@
 """What Word shows in print that isn't text of a document in DOCX, as pandoc reads it, written as text.
 
 These are the readings of characters, which stand above them, and the boxes of forms: older ones, which
-have nothing in the text, and those of newer ones that are symbols of a font.
+have nothing in the text, and those of newer ones that are symbols of a font. pandoc knows no emphasis
+of whole paragraphs either.
 """
 
-from collections.abc import Iterator
+import re
+from collections.abc import Iterator, Mapping
 from xml.etree.ElementTree import Element
 from xml.sax.saxutils import escape
 
@@ -15,7 +17,7 @@ _W14 = "{http://schemas.microsoft.com/office/word/2010/wordml}"
 _RUN, _RUBY = f"{_W}r", f"{_W}ruby"
 _OFF = ("0", "false", "off")
 #: What isn't typed: what was deleted, is in a text box, or is for older programs.
-_GONE = (
+GONE = (
     f"{_W}txbxContent",
     f"{_W}del",
     f"{_W}moveFrom",
@@ -29,7 +31,11 @@ _TEXTS = frozenset(
     f"{_W}{name}"
     for name in ("r", "t", "lastRenderedPageBreak", "proofErr", "bookmarkStart")
 ) | {f"{_W}bookmarkEnd"}
-#: How many characters are shown of the paragraph of a box.
+#: The names of the styles of headings, whose emphasis is that of headings.
+_HEADING = re.compile("heading [1-9]", re.IGNORECASE)
+#: How many styles are looked at of those that one is based on.
+_DEEPEST = 50
+#: How many characters are shown of a paragraph.
 _SHOWN = 60
 
 
@@ -68,7 +74,7 @@ def signs(root: Element) -> Iterator[Loss]:
         for paragraph in root.iter(f"{_W}p")
         for run in paragraph.iter(_RUN)
     }
-    gone = {id(run) for tag in _GONE for each in root.iter(tag) for run in each.iter()}
+    gone = {id(run) for tag in GONE for each in root.iter(tag) for run in each.iter()}
     symbols = _symbols(root)
     for run in root.iter(_RUN):
         if id(run) in around and id(run) not in gone:
@@ -76,6 +82,35 @@ def signs(root: Element) -> Iterator[Loss]:
             words = plain("".join(texts))[:_SHOWN]
             its = [*map(_sign, _boxes(run)), *(symbols.get(id(each)) for each in run)]
             yield from (Loss(LossKind.BOX, sign, words) for sign in its if sign)
+
+
+def italics(root: Element, styles: Element) -> Iterator[Loss]:
+    """The paragraphs of a part that are in italics as a whole by their style, but headings."""
+    known = {each.get(f"{_W}styleId", ""): each for each in styles.iter(f"{_W}style")}
+    italic = {name for name in known if _is_italic(name, known)}
+    gone = {id(each) for tag in GONE for part in root.iter(tag) for each in part.iter()}
+    for paragraph in root.iter(f"{_W}p"):
+        style = paragraph.find(f"{_W}pPr/{_W}pStyle")
+        if style is None or style.get(f"{_W}val") not in italic:
+            continue
+        words = plain("".join(each.text or "" for each in paragraph.iter(f"{_W}t")))
+        if words and id(paragraph) not in gone:
+            yield Loss(LossKind.EMPHASIS, words[:_SHOWN], words[:_SHOWN])
+
+
+def _is_italic(name: str, known: Mapping[str, Element]) -> bool:
+    """Whether a style of paragraphs, or the next one it is based on that says so, has italics."""
+    said: Element | None = None
+    for _ in range(_DEEPEST):
+        if name not in known:
+            break
+        named, base = (known[name].find(f"{_W}{each}") for each in ("name", "basedOn"))
+        if named is not None and _HEADING.match(named.get(f"{_W}val", "")):
+            return False
+        own = known[name].find(f"{_W}rPr/{_W}i")
+        said = own if said is None else said
+        name = "" if base is None else base.get(f"{_W}val", "")
+    return said is not None and said.get(f"{_W}val") not in _OFF
 
 
 def _symbols(root: Element) -> dict[int, str]:
