@@ -1461,10 +1461,11 @@ def test_templates_on_a_page_are_no_print() -> None:
 def test_what_fields_of_a_form_on_a_page_show_is_print() -> None:
     page = (
         "<html><form><p>Name <input value='Anna &amp; Ben'>, <input type=hidden value=no>"
-        "<input type=checkbox value=no><input type=submit value=Go /></p></form></html>"
+        "<input type=checkbox value=no><input type=submit value=Go /></p></form>"
+        "<pre><code>x = 1\ny = x</code><button>Copy</button></pre></html>"
     )
     found = read_document(page.encode(), ManuscriptKind.HTML)
-    assert " ".join(found.texts) == "Name Anna & Ben , Go"
+    assert found.texts == ["Name Anna & Ben , Go", "x = 1", "y = x", "Copy"]
     assert found.missing == ()
 
 

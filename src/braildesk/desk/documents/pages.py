@@ -54,6 +54,8 @@ _AROUND_READING = BLOCKS - {"br"}
 _BRACKET = re.compile("<rp[\\s>]", re.IGNORECASE)
 _RUBY_END = re.compile("</ruby", re.IGNORECASE)
 _TAG_END = re.compile(r"\s*</")
+#: Lines that are shown as they are written, in which a block, as a button, parts no words for pandoc.
+_LINES = "pre"
 #: What print doesn't show, with all that it has.
 _TEMPLATE = "template"
 
@@ -112,6 +114,8 @@ class _Rewriting(Tags):
         self._done = 0
         #: Whether the characters that are open have no brackets around their reading, and it is open.
         self._is_bare = self._is_in_reading = False
+        #: Whether lines are open that are shown as they are written.
+        self._is_in_lines = False
         # they are looked for once: a search from each tag would go on to the end where nothing is found
         self._brackets = [each.start() for each in _BRACKET.finditer(page)]
         self._ruby_ends = [each.start() for each in _RUBY_END.finditer(page)]
@@ -133,6 +137,7 @@ class _Rewriting(Tags):
         if tag == _TEMPLATE:
             self._templates.append(self._start())
         self._end_block(tag)
+        self._is_in_lines |= tag == _LINES
         self._begin_part(tag)
         self._measure(tag, dict(attrs))
         after = ""
@@ -146,6 +151,7 @@ class _Rewriting(Tags):
     def handle_endtag(self, tag: str) -> None:
         start = self._start()
         self._end_block(tag)
+        self._is_in_lines &= tag != _LINES
         self._end_parts(tag)
         if tag in (_READING, _RUBY):
             self._end_reading()
@@ -210,10 +216,13 @@ class _Rewriting(Tags):
         return places[found] if found < len(places) else len(self._page)
 
     def _end_block(self, tag: str) -> None:
-        """Ends characters that are still open where a block begins or ends, with their reading."""
+        """Ends characters that are still open where a block begins or ends, with their reading; and a
+        line of those that are shown as they are written."""
         if tag in _AROUND_READING:
             self._end_reading()
             self._is_bare = False
+            if self._is_in_lines and tag != _LINES:
+                self._put(self._start(), self._start(), "\n")
 
     def _end_reading(self) -> None:
         if self._is_in_reading:
