@@ -27,11 +27,11 @@ from braildesk.desk.documents.kinds import (
 )
 from braildesk.desk.manuscript import UnreadableText
 
-#: How long a document may take, in seconds of a processor and by the clock.
+#: How many seconds a document may take by the clock.
 _SECONDS = 120
-#: How many seconds of a processor pandoc may take for a small one, and for how many bytes one more: it
-#: takes hours for a few brackets that nothing closes.
-_LEAST_SECONDS, _BYTES_A_SECOND = 20, 20_000
+#: How many seconds of a processor one may take at most; and pandoc for a small one, and for how many
+#: bytes one more: it takes hours for a few brackets that nothing closes.
+_MOST_SECONDS, _LEAST_SECONDS, _BYTES_A_SECOND = 120, 20, 10_000
 #: How much pandoc may answer; the tree of a book is some fifty times as long as its print.
 _TREE_BYTES = 512 << 20
 _MEMORY = 4 << 30
@@ -61,7 +61,7 @@ def tree(data: bytes, kind: ManuscriptKind) -> tuple[dict[str, Any], frozenset[s
     if pandoc is None:
         raise NoConverter(kind, "pandoc", "pandoc")
     words = [pandoc, "--sandbox", "--from", _form(data, kind), "--to", "json"]
-    seconds = min(_LEAST_SECONDS + len(data) // _BYTES_A_SECOND, _SECONDS)
+    seconds = min(_LEAST_SECONDS + len(data) // _BYTES_A_SECOND, _MOST_SECONDS)
     with tempfile.TemporaryFile() as source:
         source.write(data)
         source.seek(0)
@@ -100,7 +100,7 @@ def as_docx(data: bytes, kind: ManuscriptKind) -> bytes:
         profile = Path(folder, "profile").as_uri()
         words = [program, f"-env:UserInstallation={profile}", "--headless"]
         words += ["--convert-to", "docx", "--outdir", f"{folder}/made", str(source)]
-        _run("LibreOffice", words, None, _SECONDS)
+        _run("LibreOffice", words, None, _MOST_SECONDS)
         try:
             return Path(folder, "made", "manuscript.docx").read_bytes()
         except FileNotFoundError as fault:
