@@ -1232,6 +1232,7 @@ def test_a_text_in_odt_that_is_hidden_or_deleted_or_at_the_edge_is_noted(
         "</text:deletion></text:changed-region></text:tracked-changes>"
         '<text:p>Seen <text:span text:style-name="H">veiled</text:span> words'
         "<office:annotation><text:p>Check</text:p></office:annotation></text:p>"
+        "loose<text:span>stray <text:span>word</text:span></text:span>"
         "</office:text></office:body></office:document-content>"
     )
     styles = (
@@ -1245,7 +1246,8 @@ def test_a_text_in_odt_that_is_hidden_or_deleted_or_at_the_edge_is_noted(
     )
     found = read_manuscript(path)
     assert found.texts[0].startswith("Seen veiled words")
-    assert Missing("Foot", "", "") in found.missing
+    missing = ["loose", "stray word", "Foot"]
+    assert [each.words for each in found.missing] == missing
     assert lost(found, LossKind.HIDDEN) == ["veiled"]
     assert lost(found, LossKind.DELETED) == ["Gone"]
     assert lost(found, LossKind.COMMENT) == ["Check"]

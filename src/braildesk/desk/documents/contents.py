@@ -428,7 +428,13 @@ def _odt_paragraphs(element: Element, is_whole: bool = False) -> Iterator[str]:
             yield from _odt_paragraphs(each)
         return
     for child in element:
-        yield from _odt_paragraphs(child)
+        if child.tag == f"{_TEXT}span":
+            yield "".join(_odt_runs(child, []))
+        else:
+            yield from _odt_paragraphs(child)
+        # no program shows what stands between paragraphs
+        if child.tail and child.tail.strip():
+            yield child.tail
 
 
 def _odt_runs(element: Element, inner: list[Element]) -> Iterator[str]:
