@@ -92,6 +92,23 @@ def test_a_cell_that_goes_on_over_rows_has_an_empty_place_in_those_below(
     )
 
 
+@pytest.mark.parametrize("grid", ["", "<w:tblGrid><w:gridCol/></w:tblGrid>"])
+def test_a_table_keeps_its_cells_whatever_is_said_of_its_columns(
+    tmp_path: Path, grid: str
+) -> None:
+    inner = table((cell("f"), cell("g"), cell("h"), cell("i")))
+    body = table(
+        (cell("a"), cell("b"), cell("c")),
+        (cell("d", '<w:gridSpan w:val="2"/>'), cell("e") + inner + paragraph()),
+    )
+    # what describes a table isn't typed again if it is print before it
+    described = f'<w:tblPr><w:tblCaption w:val="Letters"/></w:tblPr>{grid}'
+    body = re.sub("<w:tblGrid>.*?</w:tblGrid>", described, body)
+    found = read_manuscript(docx(tmp_path / "a.docx", paragraph(run("Letters")) + body))
+    assert found.texts == ["Letters", "a; b; c", "d; e f; g; h; i"]
+    assert found.missing == ()
+
+
 def box(*properties: str) -> str:
     """A box of an older form."""
     data = f"<w:ffData><w:checkBox>{''.join(properties)}</w:checkBox></w:ffData>"

@@ -126,6 +126,7 @@ def _numbered(part: bytes, root: Element, labels: Iterator[str]) -> bytes:
     """A part with what stands at the front of each paragraph, and what Word shows beside its text."""
     unseen = _in_codes(root) | word_print.replaced(root)
     ahead = word_print.texts_ahead(root)
+    texts = {plain("".join(each.itertext())) for each in root.iter(f"{_W}p")}
     place = -1
 
     def front_of(name: str) -> str:
@@ -136,6 +137,9 @@ def _numbered(part: bytes, root: Element, labels: Iterator[str]) -> bytes:
         return run if label else ""
 
     def is_left_out(name: str, attributes: Sequence[str]) -> bool:
+        if name == f"{_W}tblCaption":
+            # what describes a table is its title for pandoc, and may stand before it too
+            return not texts.isdisjoint(map(plain, attributes))
         return place in unseen or _is_left_out(name, attributes)
 
     how = Rewriting(
@@ -178,8 +182,10 @@ def _in_codes(root: Element) -> frozenset[int]:
 
 
 def _is_left_out(name: str, attributes: Sequence[str]) -> bool:
-    """Whether an element is for older programs, or has pandoc put a paragraph before another table."""
-    return name == _FALLBACK or name == f"{_W}pStyle" and "Caption" in attributes
+    """Whether an element is for older programs, has pandoc put a paragraph before another table, or says
+    how many columns one has, which is said anew."""
+    is_title = name == f"{_W}pStyle" and "Caption" in attributes
+    return is_title or name in (_FALLBACK, f"{_W}tblGrid")
 
 
 @dataclass(frozen=True, slots=True)

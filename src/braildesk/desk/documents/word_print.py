@@ -2,7 +2,7 @@
 
 These are the readings of characters, which stand above them, and the boxes of forms: older ones, which
 have nothing in the text, and those of newer ones that are symbols of a font. pandoc knows no emphasis
-of whole paragraphs either.
+of whole paragraphs either, and no cells of a table of which nothing says how many columns it has.
 """
 
 import re
@@ -10,7 +10,7 @@ from collections.abc import Iterator, Mapping
 from xml.etree.ElementTree import Element
 from xml.sax.saxutils import escape
 
-from braildesk.desk.documents.reading import Loss, LossKind, plain
+from braildesk.desk.documents.reading import Loss, LossKind, plain, whole
 
 _W = "{http://schemas.openxmlformats.org/wordprocessingml/2006/main}"
 _W14 = "{http://schemas.microsoft.com/office/word/2010/wordml}"
@@ -33,6 +33,8 @@ _TEXTS = frozenset(
 ) | {f"{_W}bookmarkEnd"}
 #: The names of the styles of headings, whose emphasis is that of headings.
 _HEADING = re.compile("heading [1-9]", re.IGNORECASE)
+#: The most columns of a table that are written.
+_WIDEST = 1_000
 #: How many styles are looked at of those that one is based on.
 _DEEPEST = 50
 #: How many characters are shown of a paragraph.
@@ -42,10 +44,12 @@ _SHOWN = 60
 def texts_ahead(root: Element) -> dict[int, str]:
     """What stands in XML ahead of elements of a part, by their places in it; and see `replaced`."""
     found: dict[int, str] = {}
-    symbols = _symbols(root)
+    symbols, grids = _symbols(root), dict(_grids(root))
     for place, element in enumerate(root.iter()):
         if id(element) in symbols:
             found[place] = _text(symbols[id(element)])
+        if id(element) in grids:
+            found[place] = grids[id(element)]
         if element.tag == _RUN:
             signs = "".join(map(_sign, _boxes(element)))
             if signs:
@@ -124,6 +128,21 @@ def _symbols(root: Element) -> dict[int, str]:
             is_crossed = checked is not None and checked.get(f"{_W14}val") not in _OFF
             found[id(symbols[0])] = _CROSSED if is_crossed else _EMPTY
     return found
+
+
+def _grids(root: Element) -> Iterator[tuple[int, str]]:
+    """The columns of each table, by the identity of its first row: pandoc reads no cell beyond them."""
+    for table in root.iter(f"{_W}tbl"):
+        rows = [each for each in table.iter(f"{_W}tr")]
+        widths = (sum(map(_width, row.iter(f"{_W}tc"))) for row in rows)
+        if rows:
+            columns = '<w:gridCol w:w="1"/>' * min(max(widths), _WIDEST)
+            yield id(rows[0]), f"<w:tblGrid>{columns}</w:tblGrid>"
+
+
+def _width(cell: Element) -> int:
+    span = cell.find(f"{_W}tcPr/{_W}gridSpan")
+    return max(whole(None if span is None else span.get(f"{_W}val"), 1), 1)
 
 
 def _boxes(run: Element) -> Iterator[Element]:
