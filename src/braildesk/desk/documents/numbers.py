@@ -126,7 +126,9 @@ def _numbered(part: bytes, root: Element, labels: Iterator[str]) -> bytes:
     """A part with what stands at the front of each paragraph, and what Word shows beside its text."""
     unseen = _in_codes(root) | word_print.replaced(root)
     ahead = word_print.texts_ahead(root)
-    texts = {plain("".join(each.itertext())) for each in root.iter(f"{_W}p")}
+    has_titles = b"tblCaption" in part
+    paragraphs = root.iter(f"{_W}p") if has_titles else ()
+    texts = {plain("".join(each.itertext())) for each in paragraphs}
     place = -1
 
     def front_of(name: str) -> str:

@@ -92,6 +92,8 @@ def italics(root: Element, styles: Element) -> Iterator[Loss]:
     """The paragraphs of a part that are in italics as a whole by their style, but headings."""
     known = {each.get(f"{_W}styleId", ""): each for each in styles.iter(f"{_W}style")}
     italic = {name for name in known if _is_italic(name, known)}
+    if not italic:
+        return
     gone = {id(each) for tag in GONE for part in root.iter(tag) for each in part.iter()}
     for paragraph in root.iter(f"{_W}p"):
         style = paragraph.find(f"{_W}pPr/{_W}pStyle")
