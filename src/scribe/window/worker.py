@@ -4,6 +4,7 @@ from collections import deque
 from collections.abc import Callable
 from concurrent.futures import Future
 from concurrent.futures import TimeoutError as NotYet
+from contextlib import suppress
 from threading import Condition, Thread
 from typing import Any, TypeVar, cast
 
@@ -62,12 +63,9 @@ class Worker(QObject):
         """
         job = _Job(act, lambda future: None)
         self._put(job, is_first)
-        try:
+        # a time that ran out within the work looks the same, and is raised below
+        with suppress(NotYet):
             return cast(Result, job.future.result(timeout=_MOMENT_SECONDS))
-        except NotYet:
-            # a time that ran out within the work looks the same
-            if job.future.done():
-                raise
         self._wait_for(job)
         return cast(Result, job.future.result())
 
