@@ -153,18 +153,25 @@ class Pipe:
         """Ends the input, and waits for the program to end.
 
         A program whose pipes were left in the middle of a move, as Ctrl-C may do, is ended by a
-        signal: what it acknowledged is in its file, and no request is written to it twice.
+        signal: what it acknowledged is in its file, and no request is written to it twice. If the
+        waiting is stopped here, that is raised once the program has ended.
         """
         if self.steps.are_interrupted:
             self.kill()
         self._is_closing = True
         self.abandon()
+        stopped: KeyboardInterrupt | None = None
         while self._open:
-            self._receive()
+            try:
+                self._receive()
+            except KeyboardInterrupt as cause:
+                stopped = cause
         status = self._process.wait()
         for stream in (self._process.stdout, self._process.stderr):
             if stream is not None:
                 stream.close()
+        if stopped is not None:
+            raise stopped
         errors = self._error_bytes.decode(errors="replace")
         return Ending(status, errors, self._is_given_up)
 

@@ -1,6 +1,7 @@
 """What the tests of the window share: books, and windows that are closed at the end."""
 
 import os
+import time
 from collections.abc import Callable, Iterator, Sequence
 from pathlib import Path
 from tempfile import TemporaryDirectory
@@ -151,7 +152,15 @@ def long_book() -> Iterator[Path]:
         yield path
 
 
+def wait(application: QApplication, seconds: float, is_so: Callable[[], bool]) -> bool:
+    """Whether something comes about within a time."""
+    end = time.monotonic() + seconds
+    while time.monotonic() < end and not is_so():
+        application.processEvents()
+    return is_so()
+
+
 def prints(book: Path) -> list[str]:
     """The prints of a book that is closed."""
-    with Session(book, timeout=10) as session:
+    with Session(book, timeout=60) as session:
         return [session.print_of(each.id) for each in session.paragraphs()]

@@ -107,14 +107,20 @@ class Reader:
         found = (each for each in self._windows() if has(each, active))
         return next(found, None)
 
-    def dialog(self, title: str) -> Part:
-        """The window over the first one that has a title, once it has the keyboard."""
+    def dialog(self, title: str, words: str = "") -> Part:
+        """The window over the first one that has a title, once it has the keyboard.
+
+        It asks in some words, where the one before it had the same title.
+        """
 
         def found() -> Part:
             active = self._active()
-            return active if active and active.get_name() == title else None
+            if active is None or active.get_name() != title:
+                return None
+            is_it = not words or within(active, "label", words) is not None
+            return active if is_it else None
 
-        its: Part = self.until(f"the dialog {title}", found)
+        its: Part = self.until(f"the dialog {title} {words}", found)
         return its
 
     def no_dialog(self) -> None:
@@ -157,11 +163,6 @@ class Reader:
     def text_in(self, part: Part) -> str:
         """The text of a part that was found."""
         return text_of(part)
-
-    def has_label(self, title: str, words: str) -> bool:
-        """Whether the window of a title has some words."""
-        tops = [each for each in self._windows() if each.get_name() == title]
-        return any(within(each, "label", words) is not None for each in tops)
 
     def reads(self, name: str, text: str) -> None:
         """Waits until a field has a text."""

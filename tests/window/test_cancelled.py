@@ -2,6 +2,7 @@
 
 import errno
 import os
+import select
 import signal
 import time
 from collections.abc import Callable, Iterator, Sequence
@@ -186,7 +187,10 @@ def _at_a_table(moon: Path, at: Open, queue: Path) -> tuple[Reader, int]:
 
 
 def _let_on(window: Reader, queue: Path, there: int) -> None:
-    """Has the program of a window wait no more."""
+    """Has the program of a window wait no more, once it waits."""
+    came = select.poll()
+    came.register(there)
+    window.until("the program that was at the queue", lambda: came.poll(0))
     os.close(there)
 
     def is_let_on() -> bool:
@@ -253,17 +257,17 @@ def test_enter_does_not_end_what_takes_long(
     timer.stop()
 
 
-def test_a_window_that_is_ended_while_it_works_ends_after_the_step(
+def test_a_window_that_is_ended_while_it_works_waits_for_no_step_that_has_no_end(
     moon: Path, at: Open, queue: Path
 ) -> None:
     window, there = _at_a_table(moon, at, queue)
     window.dialog("Table: please wait")
     window.program.send_signal(signal.SIGTERM)
-    _let_on(window, queue, there)
-    shown, said = window.program.communicate(timeout=60)
-    assert (window.program.returncode, shown) == (-signal.SIGTERM, b"")
-    assert b"fault" not in said
-    with Session(moon) as session:
+    shown, said = window.program.communicate(timeout=120)
+    os.close(there)
+    assert (window.program.returncode, shown) == (3, b"")
+    assert said.startswith(b"braildesk didn't answer any more, and was ended.")
+    with Session(moon, timeout=60) as session:
         assert {each.table for each in session.paragraphs()} == {"en"}
 
 

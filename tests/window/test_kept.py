@@ -12,6 +12,8 @@ from braildesk import DeskError, Session
 from braildesk.desk.draft import Aim, Draft
 from braildesk.desk.drafts import Drafts
 
+from scribe.words.console import WAITING
+
 from conftest import Open, prints
 from reader import Reader
 
@@ -159,20 +161,73 @@ def test_a_book_that_is_gone_is_not_said_to_be_at_a_version(
     )
 
 
+AGAIN = (
+    "braildesk didn't answer any more, and was ended. The book was opened again: it is at version 5,"
+    " as before"
+)
+
+
+@pytest.mark.parametrize(
+    "typed, key, message, said",
+    [
+        ("s", "", "", "Stopped by SIGTERM. What was reported as kept is in the book."),
+        ("s", "Return", WAITING, f"{AGAIN}, and what was asked last is not in it."),
+        ("", "Ctrl+p", "The page is shown beside the book.", f"{AGAIN}."),
+    ],
+)
+def test_a_window_is_ended_also_while_the_program_does_not_answer(
+    moon: Path, at: Open, typed: str, key: str, message: str, said: str
+) -> None:
+    window = at(moon)
+    window.press("F2")
+    window.focus("text", "Print")
+    window.press("End")
+    window.caret("Print", 8)
+    if typed:
+        window.type(typed)
+        _waits(window, moon, f"The Moon{typed}")
+    os.kill(_session_of(window), signal.SIGSTOP)
+    if key:
+        window.press(key)
+        window.reads("Message", message)
+    window.program.send_signal(signal.SIGTERM)
+    shown, errors = window.program.communicate(timeout=120)
+    assert shown == b""
+    waits = "What was typed and isn't in the book is kept, and is offered when it is next opened."
+    whole = f"{said} {waits}" if typed else said
+    assert " ".join(errors.decode().split()) == whole
+    assert window.program.returncode == (3 if key else -signal.SIGTERM)
+    waiting = Drafts(moon).waiting()
+    assert (waiting.text if waiting else "") == (f"The Moon{typed}" if typed else "")
+    # and the file is free
+    assert prints(moon)[0] == "The Moon"
+
+
 def _session_of(window: Reader) -> int:
     """The number of the process of the session of a window."""
     task = Path(f"/proc/{window.program.pid}/task")
-    found = [
-        int(number)
-        for thread in task.iterdir()
-        for number in (thread / "children").read_text().split()
-    ]
-    (session,) = (each for each in found if "session" in _words(each))
-    return session
+
+    def look() -> int | None:
+        found = [
+            int(number)
+            for thread in task.iterdir()
+            for number in _read(thread / "children").split()
+        ]
+        return next((each for each in found if "session" in _words(each)), None)
+
+    return window.until("the session", look)
 
 
 def _words(process: int) -> list[str]:
-    return Path(f"/proc/{process}/cmdline").read_text().split("\0")
+    return _read(Path(f"/proc/{process}/cmdline")).split("\0")
+
+
+def _read(path: Path) -> str:
+    """What stands in a file of a process or a thread; nothing of one that has ended."""
+    try:
+        return path.read_text()
+    except (FileNotFoundError, ProcessLookupError):
+        return ""
 
 
 @pytest.mark.parametrize("number", [signal.SIGTERM, signal.SIGKILL])
@@ -185,7 +240,7 @@ def test_words_that_come_in_place_of_others_are_there_again_after_the_end(
     window.type("sea")
     window.press("Return")
     asked = "What comes in place of “sea” in paragraph 3:"
-    window.until("the next", lambda: window.has_label("Change words", asked))
+    window.dialog("Change words", asked)
     window.type("ocean")
     drafts = Drafts(moon)
     window.until("the words", lambda: drafts.words() == ("sea", "ocean"))
@@ -199,7 +254,7 @@ def test_words_that_come_in_place_of_others_are_there_again_after_the_end(
     again.press("Ctrl+h")
     again.dialog("Change words")
     again.press("Return")
-    again.until("the next", lambda: again.has_label("Change words", asked))
+    again.dialog("Change words", asked)
     again.press("Return")
     again.reads("Print", "Twice a day the ocean comes up.")
     again.until("no words", lambda: drafts.words() is None)

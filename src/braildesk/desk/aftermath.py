@@ -1,5 +1,6 @@
 """What became of a command that was not answered: the book is opened again, and shows it."""
 
+from collections.abc import Callable
 from dataclasses import dataclass
 from pathlib import Path
 from typing import Any
@@ -29,9 +30,11 @@ class FoundAgain:
     is_answered: bool
 
 
-def opened_again(path: Path, lost: Lost) -> tuple[Session, FoundAgain]:
+def opened_again(
+    path: Path, lost: Lost, while_waiting: Callable[[], None] = lambda: None
+) -> tuple[Session, FoundAgain]:
     """The book in another session, and what it has; raises `DeskError` or `OSError`."""
-    session = Session(path, timeout=PATIENCE)
+    session = Session(path, timeout=PATIENCE, while_waiting=while_waiting)
     session.guard()
     try:
         return session, found_again(session, lost)

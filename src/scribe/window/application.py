@@ -38,10 +38,8 @@ _NO_SCREEN = (
     "The screen that DISPLAY or WAYLAND_DISPLAY names can't be reached. Nothing was changed. scribe"
     " edit shows a book in a terminal."
 )
-_SCREEN_GONE = (
-    "The screen is gone: its X server or its compositor ended. What was reported as kept is in the"
-    " book."
-)
+_KEPT = "What was reported as kept is in the book."
+_SCREEN_GONE = f"The screen is gone: its X server or its compositor ended. {_KEPT}"
 _SIGNALS = (signal.SIGHUP, signal.SIGTERM, signal.SIGINT, signal.SIGXCPU)
 
 
@@ -144,12 +142,16 @@ class Application:
             notifier.setEnabled(False)
             for end in ends:
                 end.close()
-            sys.excepthook = before
             self._close()
-        if self._fault is not None:
-            raise self._fault
-        if self._ended_by is not None:
-            raise Interrupted(self._ended_by, is_said=True)
+            sys.excepthook = before
+        cause = self._fault
+        if cause is None and self._ended_by is not None:
+            cause = Interrupted(self._ended_by)
+        if cause is not None:
+            if waits := desk.waits_at_once():
+                kept = "" if isinstance(cause, Lost) else _KEPT
+                cause.add_note(f"{kept} {waits}".strip())
+            raise cause
 
     def _close(self) -> None:
         desk = self._desk
@@ -159,6 +161,9 @@ class Application:
             desk.close()
         except Lost as lost:
             self._fault = self._fault or lost
+        except Interrupted:
+            # the program didn't answer, and was ended
+            pass
 
     def _failed(
         self,
@@ -167,7 +172,9 @@ class Application:
         trace: TracebackType | None,
     ) -> None:
         """A fault of scribe ends it, as elsewhere, and not without what is typed being kept."""
-        self._fault = self._fault or fault
+        # a program that didn't answer is waited for no more because the window is being ended
+        if not isinstance(fault, Interrupted):
+            self._fault = self._fault or fault
         self._end()
 
     def _end(self) -> None:

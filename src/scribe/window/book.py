@@ -117,12 +117,19 @@ class NothingToTakeBack(Exception):
 class OpenBook:
     """A book that is open in a window."""
 
-    def __init__(self, path: Path, by: str | None, wait: float) -> None:
+    def __init__(
+        self,
+        path: Path,
+        by: str | None,
+        wait: float,
+        while_waiting: Callable[[], None] = lambda: None,
+    ) -> None:
         self.path = path
         self._by = by
         self._wait = wait
+        self._while_waiting = while_waiting
         #: By these what is typed is translated before the book has it.
-        self.tables = Tables()
+        self.tables = Tables(while_waiting)
         self._session: Session
         self._was_open = False
         self._deeds: tuple[Deed, ...] = ()
@@ -152,7 +159,8 @@ class OpenBook:
 
     def opened(self) -> Contents:
         """Opens the session, and reads the tables that the book has."""
-        session = Session(self.path, timeout=self._wait)
+        look = self._while_waiting
+        session = Session(self.path, timeout=self._wait, while_waiting=look)
         try:
             return self._with(session)
         except BaseException:
@@ -176,7 +184,8 @@ class OpenBook:
             # in what stands there now something else would be taken back
             self._deeds = ()
             return None, [lost.sentence]
-        session, said = opened_again(self.path, lost, begun=begun)
+        look = self._while_waiting
+        session, said = opened_again(self.path, lost, begun=begun, while_waiting=look)
         if session is None:
             return None, said
         before = lost.version

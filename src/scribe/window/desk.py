@@ -1,6 +1,7 @@
 """A book at work in its window: what is chosen and typed, what is kept of it, and what is shown."""
 
 import os
+import signal
 from collections.abc import Callable, Iterator, Sequence
 from concurrent.futures import Future
 from contextlib import contextmanager, suppress
@@ -54,7 +55,7 @@ from scribe.words.console import WAITING
 from scribe.words.drafts import Unsent, changed_since, not_kept, what_for
 from scribe.words.paragraph import mark_line, title
 from scribe.words.preview import Preview
-from scribe.words.status import Stop, in_sentences
+from scribe.words.status import Interrupted, Stop, in_sentences
 
 Result = TypeVar("Result")
 #: What is said where an action needs a paragraph, where that has to be one that isn't struck, and where
@@ -88,7 +89,7 @@ class Desk:
         self.page_size = page_size
         #: The threads of the session, of the texts that wait, and of what is translated ahead.
         self.work, self.aside, self.ahead = Worker(), Worker(), Worker()
-        self.book = OpenBook(path, by, wait)
+        self.book = OpenBook(path, by, wait, self._look_at_end)
         self.drafts = Drafts(path)
         self.unsent = Unsent(self.drafts)
         self.contents = Contents(0, (), ())
@@ -143,6 +144,11 @@ class Desk:
         # Enter is where the print is typed, as on the screen
         window.table.activated.connect(lambda _: self.act("to_print"))
         window.cells.entered.connect(lambda: self.act("to_print"))
+
+    def _look_at_end(self) -> None:
+        """Stops waiting for a program that doesn't answer, in any thread, once the window is to end."""
+        if self.is_ending:
+            raise Interrupted(signal.SIGTERM)
 
     def begin(self) -> None:
         """Opens the book and shows it; raises what the client raises."""

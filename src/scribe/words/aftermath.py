@@ -1,5 +1,6 @@
 """What became of a command that was not answered, in words, once the book is opened again."""
 
+from collections.abc import Callable
 from pathlib import Path
 
 from braildesk import DeskError, Displaced, Lost, Session
@@ -22,7 +23,11 @@ def after_loss(path: Path, lost: Lost) -> list[str]:
 
 
 def opened_again(
-    path: Path, lost: Lost, shown: int | None = None, begun: int | None = None
+    path: Path,
+    lost: Lost,
+    shown: int | None = None,
+    begun: int | None = None,
+    while_waiting: Callable[[], None] = lambda: None,
 ) -> tuple[Session | None, list[str]]:
     """The book in another session, if it can be opened again, and what is said of the loss.
 
@@ -31,7 +36,7 @@ def opened_again(
     if isinstance(lost, Displaced):
         return None, [lost.sentence]
     try:
-        session, found = aftermath.opened_again(path, lost)
+        session, found = aftermath.opened_again(path, lost, while_waiting)
     except DeskError as failed:
         return None, [lost.sentence, failed.reason]
     except OSError as failure:

@@ -1,6 +1,6 @@
 """The braille of print that isn't in the book yet, by `braildesk translate`."""
 
-from collections.abc import Sequence
+from collections.abc import Callable, Sequence
 from dataclasses import dataclass
 
 from braildesk import DeskError, Refused, Table, Undefined, translate
@@ -24,7 +24,8 @@ class Preview:
 class Tables:
     """The texts of the book's tables, as they were before the session began and as sent since."""
 
-    def __init__(self) -> None:
+    def __init__(self, while_waiting: Callable[[], None] = lambda: None) -> None:
+        self._while_waiting = while_waiting
         #: Each by its name; the supplied table has no text of its own.
         self._tables: dict[str, Table | None] = {}
 
@@ -61,7 +62,8 @@ class Tables:
         return ""
 
     def _answers(self, name: str, texts: Sequence[str]) -> list[str | Refused]:
-        return translate(self._tables[name] or _SUPPLIED, texts)
+        table, look = self._tables[name] or _SUPPLIED, self._while_waiting
+        return translate(table, texts, while_waiting=look)
 
 
 def _fault(name: str, text: str, refused: Refused) -> str:
