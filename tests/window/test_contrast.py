@@ -1,7 +1,6 @@
 """High contrast, which a window has where the desktop wants it, from its opening on and as it changes."""
 
 import os
-import time
 from collections import Counter
 from collections.abc import Callable, Iterator
 from pathlib import Path
@@ -14,7 +13,7 @@ from PyQt6.QtWidgets import QApplication
 from scribe.window.contrast import Contrast
 from scribe.window.desk import Desk
 
-from conftest import Open
+from conftest import Open, wait
 from portal import CONTRAST, Key, OF_GNOME, Portal, SCHEME
 from reader import Part, Reader
 
@@ -85,8 +84,8 @@ def test_a_window_has_high_contrast_where_the_desktop_wants_it(
     lends((SCHEME, "0"), setting)
     window = at(moon)
     becomes(window, WHITE, BLACK)
-    assert frame(window.part("table", "Paragraphs")) == 3
-    print_ = window.part("text", "Print")
+    table, print_ = window.part("table", "Paragraphs"), window.part("text", "Print")
+    window.until("a wide frame of the table", lambda: frame(table) == 3)
     assert frame(print_) == 1
     window.press("F2")
     window.focus("text", "Print")
@@ -147,20 +146,15 @@ def test_a_window_waits_for_no_program_for_settings(
     window = at(moon, PATH=program(tmp_path / "bin", HANGS.format(number)))
     window.press("F2")
     window.focus("text", "Print")
-    window.until("the program", number.exists)
-    its = Path("/proc", number.read_text().strip())
+
+    def read() -> str:
+        return number.read_text().strip() if number.exists() else ""
+
+    its = Path("/proc", window.until("the program", read))
     window.until("the end of the program", lambda: not its.exists())
     is_usual(window)
     window.press("Ctrl+q")
     assert window.end() == 0
-
-
-def wait(application: QApplication, seconds: float, is_so: Callable[[], bool]) -> bool:
-    """Whether something comes about within a time."""
-    end = time.monotonic() + seconds
-    while time.monotonic() < end and not is_so():
-        application.processEvents()
-    return is_so()
 
 
 def is_of(application: QApplication, palette: QPalette) -> bool:

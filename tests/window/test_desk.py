@@ -5,6 +5,7 @@ import signal
 import sys
 import time
 from collections.abc import Callable, Sequence
+from concurrent.futures import Future
 from pathlib import Path
 from threading import Event
 from typing import Any
@@ -24,8 +25,11 @@ from braildesk.text.spans import Span
 from scribe.window import dialogs
 from scribe.window.book import Contents, OpenBook
 from scribe.window.desk import Desk
+from scribe.window.worker import Worker
 from scribe.words.console import Console
 from scribe.words.import_text import import_in_words
+
+from conftest import wait
 
 
 def _paste(desk: Desk, text: str) -> None:
@@ -220,17 +224,14 @@ def test_what_takes_long_is_cancelled_by_its_dialog(desk: Desk) -> None:
 
 
 def test_what_is_typed_stays_what_it_is_where_cells_are_shown_otherwise(
-    desk: Desk,
+    application: QApplication, desk: Desk
 ) -> None:
     desk.act("new_after")
     desk.act("notation")
     # nothing was typed, and the paragraph beside isn't either
     assert (desk.window.print.text, desk.is_typed()) == ("", False)
     desk.window.print.insertPlainText("So")
-    end = time.monotonic() + 10
-    while not desk.window.cells.text and time.monotonic() < end:
-        QApplication.processEvents()
-    assert desk.window.cells.text == ",SO"
+    assert wait(application, 60, lambda: desk.window.cells.text == ",SO")
     desk.act("notation")
     assert (desk.window.print.text, desk.window.cells.text) == ("So", "⠠⠎⠕")
     # and these are the cells that are copied
@@ -242,7 +243,7 @@ def test_what_is_typed_stays_what_it_is_where_cells_are_shown_otherwise(
 
 
 def test_no_page_is_shown_of_a_book_that_was_changed_meanwhile(
-    desk: Desk, monkeypatch: pytest.MonkeyPatch
+    application: QApplication, desk: Desk, monkeypatch: pytest.MonkeyPatch
 ) -> None:
     failed: list[object] = []
     monkeypatch.setattr(sys, "excepthook", lambda kind, fault, _: failed.append(fault))
@@ -255,30 +256,46 @@ def test_no_page_is_shown_of_a_book_that_was_changed_meanwhile(
     desk.work.post(lambda: time.sleep(0.2), lambda _: None)
     desk.update_page(True)
     desk.do(requests.Correct(2, 0, 20, "A " + "b" * 38))
-    end = time.monotonic() + 10
-    while "⠃" * 38 not in desk.window.page.text and time.monotonic() < end:
-        QApplication.processEvents()
+    page = desk.window.page
+    assert wait(application, 60, lambda: "⠃" * 38 in page.text or bool(failed))
     desk.window.hide()
-    assert (failed, "⠃" * 38 in desk.window.page.text) == ([], True)
+    assert failed == []
 
 
-def test_what_was_read_before_a_change_is_not_listed_after_it(desk: Desk) -> None:
-    model = desk.window.model
+def test_what_was_read_before_a_change_is_not_listed_after_it(
+    application: QApplication, desk: Desk
+) -> None:
+    model, is_read = desk.window.model, Event()
 
     def listed(place: int) -> list[str]:
         return [model.data(model.index(place, n)) for n in (2, 3)]
 
     assert listed(1) == ["", ""]
-    # it was read by now, and is handed over only after the correction
-    desk.asked(lambda: None)
-    time.sleep(0.1)
+    # it is read by then, and is handed over only after the correction
+    desk.work.post(lambda: is_read.set(), lambda _: None)
+    assert is_read.wait(60)
     desk.do(requests.Correct(2, 6, 0, "o"))
     desk.do(requests.Resolve(1))
-    QApplication.processEvents()
-    end = time.monotonic() + 10
-    while listed(1) != ["", "The moon is far away."]:
-        assert time.monotonic() < end, listed(1)
-        QApplication.processEvents()
+    there = ["", "The moon is far away."]
+    assert wait(application, 60, lambda: listed(1) == there), listed(1)
+
+
+def test_what_is_done_just_as_its_waiting_ends_is_no_failure(
+    application: QApplication, monkeypatch: pytest.MonkeyPatch
+) -> None:
+    class Late(Future[int]):
+        """What came a moment after its time ran out."""
+
+        def result(self, timeout: float | None = None) -> int:
+            found = super().result()
+            if timeout is not None:
+                raise TimeoutError
+            return found
+
+    monkeypatch.setattr("scribe.window.worker.Future", Late)
+    worker = Worker()
+    assert worker.result(lambda: 1) == 1
+    worker.stop()
 
 
 def test_sizes_and_fonts_are_remembered(desk: Desk, moon: Path) -> None:
@@ -381,5 +398,5 @@ def test_the_message_says_that_the_program_is_waited_for_until_it_answers(
         is_seen.set()
 
     message.textChanged.connect(look)
-    assert desk.asked(lambda: is_seen.wait(5))
+    assert desk.asked(lambda: is_seen.wait(60))
     assert said == ["Waiting for braildesk to answer.", "Kept: paragraph 1."]

@@ -23,7 +23,7 @@ from scribe.window.paragraphs import WORDS
 from scribe.window.window import Window
 from scribe.window.worker import Worker
 
-from test_contrast import wait
+from conftest import wait
 
 LOW = QSize(640, 480)
 # the words of a paragraph, as a question quotes them

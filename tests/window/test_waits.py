@@ -2,7 +2,6 @@
 
 import os
 import signal
-import time
 from collections.abc import Callable, Iterator, Sequence
 from contextlib import AbstractContextManager, contextmanager
 from pathlib import Path
@@ -23,7 +22,7 @@ from scribe.window.book import ChosenParagraph, Done
 from scribe.window.desk import Desk
 from scribe.window.marking import Marking
 
-from conftest import Open, prints
+from conftest import Open, prints, wait
 from test_cancelled import STAND_IN
 
 Note = Callable[[str, str | None], None]
@@ -175,7 +174,7 @@ def test_a_note_whose_cells_are_gone_is_not_lost(
 
 
 def test_while_a_note_is_typed_the_end_of_the_session_is_not_looked_at_again_and_again(
-    desk: Desk, monkeypatch: pytest.MonkeyPatch
+    application: QApplication, desk: Desk, monkeypatch: pytest.MonkeyPatch
 ) -> None:
     looks: list[None] = []
     acting = desk.acting
@@ -187,16 +186,14 @@ def test_while_a_note_is_typed_the_end_of_the_session_is_not_looked_at_again_and
     def text(*_: object) -> None:
         monkeypatch.setattr(desk, "acting", counted)
         os.kill(desk.book.pid, signal.SIGKILL)
-        end = time.monotonic() + 0.3
-        while time.monotonic() < end:
-            QApplication.processEvents()
+        assert wait(application, 60, lambda: bool(looks))
+        for turn in range(100):
+            application.processEvents()
 
     monkeypatch.setattr(dialogs, "text_further", text)
     desk.act("mark")
     assert len(looks) == 1
-    end = time.monotonic() + 10
-    while not desk.window.message.text and time.monotonic() < end:
-        QApplication.processEvents()
+    assert wait(application, 60, lambda: bool(desk.window.message.text))
     assert desk.window.message.text.startswith("The session was ended by signal 9.")
 
 
@@ -205,7 +202,7 @@ def test_what_others_changed_is_not_taken_back_by_what_was_typed_before(
 ) -> None:
     desk.window.print.textCursor().insertText("So: ")
     os.kill(desk.book.pid, signal.SIGKILL)
-    with Session(moon, timeout=10) as session:
+    with Session(moon, timeout=60) as session:
         session.correct(1, 4, 4, "Mond")
     desk.act("keep")
     assert desk.window.message.text.endswith(
@@ -421,9 +418,11 @@ def test_a_note_that_is_typed_further_keeps_what_was_typed_of_it_before(
 ) -> None:
     def type_on() -> None:
         dialog = QApplication.activeModalWidget()
-        assert isinstance(dialog, QInputDialog)
-        line = dialog.focusWidget()
-        assert isinstance(line, QLineEdit)
+        line = dialog.focusWidget() if dialog is not None else None
+        if not (isinstance(dialog, QInputDialog) and isinstance(line, QLineEdit)):
+            # the book is asked before the dialog is there
+            QTimer.singleShot(10, type_on)
+            return
         # in place of what is selected, as a key does
         line.insert("it")
         dialog.accept()
