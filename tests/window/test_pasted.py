@@ -148,3 +148,39 @@ def test_lines_that_are_dropped_stay_where_they_come_from_and_keep_it_waiting_fo
     assert not asked
     application.processEvents()
     assert asked == [["One.", "Two."]]
+
+
+TOO_MUCH = (
+    "With what was copied this would have {:,} characters, and at most {:,} can be pasted here."
+    " Nothing was typed. Save the text as a document, such as .odt or .docx: Ctrl+I imports it, with"
+    " long paragraphs parted at their sentences."
+)
+
+
+@pytest.mark.parametrize(
+    "line, times, answer, count, most",
+    [
+        ("a", 99_993, None, 100_001, 100_000),
+        ("a", 5_000_000, None, 5_000_008, 100_000),
+        ("a\n", 500_000, None, 500_008, 500_000),
+        ("a\n", 50_000, 1, 100_008, 100_000),
+    ],
+)
+def test_more_than_can_be_typed_is_said_to_be_kept_elsewhere_and_changes_nothing(
+    desk: Desk,
+    given: Answers,
+    line: str,
+    times: int,
+    answer: int | None,
+    count: int,
+    most: int,
+) -> None:
+    given["choices"] = [answer]
+    desk.window.print.put_caret(8)
+    pasted(desk, Text=line * times)
+    assert desk.window.message.text == TOO_MUCH.format(count, most)
+    assert (desk.window.print.text, desk.draft()) == ("The Moon", None)
+    # as much as there is room for is typed
+    pasted(desk, Text="a" * 99_992)
+    assert len(desk.window.print.text) == 100_000
+    desk.act("give_up")

@@ -4,6 +4,7 @@ What a correction takes away and puts in decides which marks are touched, so it 
 be without cutting a combining sequence.
 """
 
+from bisect import bisect_left, bisect_right
 from dataclasses import dataclass
 from itertools import takewhile
 
@@ -53,8 +54,8 @@ def replaced(text: str, start: int, stop: int, by: str) -> str:
     """
     joined = text[:start] + by + text[stop:]
     places = seams(joined)
-    first = max(place for place in places if place <= start)
-    last = min(place for place in places if place >= start + len(by))
+    first = places[bisect_right(places, start) - 1]
+    last = places[bisect_left(places, start + len(by))]
     return joined[:first] + composed(joined[first:last]) + joined[last:]
 
 

@@ -10,7 +10,7 @@ from scribe.window.going import Going
 from scribe.window.marking import Marking
 from scribe.window.offers import Offers
 from scribe.window.structure import Structure
-from scribe.window.typed import Typed
+from scribe.window.typed import Typed, too_much
 from scribe.window.view import View
 from scribe.window.volumes import Volumes
 
@@ -42,3 +42,4 @@ class Actions:
             lambda paths: desk.acting(lambda: files.pasted(paths))
         )
         field.nothing_pasted.connect(lambda: desk.refuse(NO_TEXT))
+        field.too_much_pasted.connect(lambda *found: desk.refuse(too_much(*found)))

@@ -22,8 +22,12 @@ from PyQt6.QtGui import (
 )
 from PyQt6.QtWidgets import QFrame, QPlainTextEdit, QTextEdit
 
+from braildesk.text import limits
 from braildesk.text.spans import Span
 
+#: The characters that may be typed in one paragraph until Enter parts it, and that may be pasted as
+#: lines: Qt lays a paragraph out anew at each key, and what is typed has to have room where it waits.
+MOST_OF_ONE, MOST_OF_LINES = 25 * limits.PRINT_CHARACTERS, 125 * limits.PRINT_CHARACTERS
 #: How wide the line around the part is that has the focus, and around the others.
 FRAME_WITH_FOCUS, _FRAME = 3, 1
 #: What is above and below the lines of a text, in pixels.
@@ -221,6 +225,8 @@ class Print(Field):
     pasted = pyqtSignal(list)
     files_pasted = pyqtSignal(list)
     nothing_pasted = pyqtSignal()
+    #: More was pasted than may be: so many characters, of so many at most.
+    too_much_pasted = pyqtSignal(int, int)
 
     def __init__(self) -> None:
         super().__init__("Print", False)
@@ -262,8 +268,12 @@ class Print(Field):
         if not text:
             self.nothing_pasted.emit()
             return
-        lines = lines_of(text)
-        if len(lines) > 1:
+        lines, here = lines_of(text), self.selected
+        most = MOST_OF_LINES if len(lines) > 1 else MOST_OF_ONE
+        whole = len(self.text) - (here.stop - here.start) + sum(map(len, lines))
+        if lines and whole > most:
+            self.too_much_pasted.emit(whole, most)
+        elif len(lines) > 1:
             self._hand_on(_with_end(self._parted(lines, text), text))
         elif lines:
             self.textCursor().insertText(*self._parted(lines, text))

@@ -19,6 +19,7 @@ from scribe.window import dialogs
 from scribe.window.book import Done, NotAll, NothingToTakeBack, ChosenParagraph
 from scribe.window.desk import CLOSED, Desk, New
 from scribe.window.dialogs import IsStopped, Say
+from scribe.window.fields import MOST_OF_ONE
 from scribe.words.drafts import what_for
 from scribe.words.paragraph import quoted
 from scribe.words.status import Interrupted, Stop
@@ -202,12 +203,15 @@ class Typed:
                 desk.begin_new(New(Aim.BEFORE, desk.number, desk.table_of_new()))
             self.typed_lines(paragraphs)
             return
-        if answer == 1:
-            joined = " ".join(lines)
+        joined = " ".join(lines)
+        count = len(front) + len(joined) + len(back)
+        if answer == 1 and count <= MOST_OF_ONE:
             if not back[:1].strip():
                 joined = joined.rstrip()
             field.textCursor().insertText(joined)
         desk.keep_draft(desk.draft())
+        if answer == 1 and count > MOST_OF_ONE:
+            raise Stop(too_much(count, MOST_OF_ONE))
 
     def _is_before(self, front: str, lines: Sequence[str], back: str) -> bool:
         """Whether pasted lines are before a whole paragraph, which stays as it is, with its marks."""
@@ -318,6 +322,15 @@ class Typed:
             desk.beside = left
             with suppress(NotKept):
                 desk.unsent.keep(left)
+
+
+def too_much(count: int, most: int) -> str:
+    """What is said where more is pasted than may be."""
+    return (
+        f"With what was copied this would have {count:,} characters, and at most {most:,} can be pasted"
+        " here. Nothing was typed. Save the text as a document, such as .odt or .docx: Ctrl+I imports"
+        " it, with long paragraphs parted at their sentences."
+    )
 
 
 def _between(front: str, lines: Sequence[str], back: str) -> list[str]:
