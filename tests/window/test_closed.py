@@ -50,14 +50,27 @@ def test_a_text_that_can_be_kept_nowhere_is_said_to_be_lost_with_the_window(
     desk.window.print.setPlainText("The Moon")
 
 
+@pytest.mark.parametrize("is_slow", [False, True])
 def test_what_is_refused_is_said_also_where_what_is_typed_can_be_kept_nowhere(
-    desk: Desk, application: QApplication, tmp_path: Path
+    desk: Desk,
+    application: QApplication,
+    monkeypatch: pytest.MonkeyPatch,
+    tmp_path: Path,
+    is_slow: bool,
 ) -> None:
     _without_folder(tmp_path)
+    wait = desk.wait_for_draft
+
+    def look_while_waiting() -> None:
+        wait()
+        application.processEvents()
+
+    if is_slow:
+        monkeypatch.setattr(desk, "wait_for_draft", look_while_waiting)
     desk.window.print.insertPlainText("#")
     for _ in range(2):
         desk.act("keep")
-        application.processEvents()
+        look_while_waiting()
         said = desk.window.message.text
         assert "The table of paragraph 1 has no cells for “#”" in said
         assert said.count("What is typed can't be kept in") == 1

@@ -753,6 +753,8 @@ class Desk:
                 done = self._typed_new(new, text)
             is_kept = True
         if not is_kept:
+            # if it can't wait either, that is said after the refusal
+            self.keep_draft(self.draft())
             return not self.is_typed() and self.new is None
         self.keep_draft(None)
         self.new = None
