@@ -212,6 +212,26 @@ def test_what_is_kept_is_not_taken_back_with_what_is_typed_after_it(
     assert document is not None and document.isRedoAvailable()
 
 
+@pytest.mark.parametrize(
+    "part, text, said", [("print", "The Moon#", ""), ("table", "The Moon", "Taken")]
+)
+def test_a_letter_that_was_typed_and_taken_away_comes_back_where_one_is_in_the_print(
+    desk: Desk, part: str, text: str, said: str
+) -> None:
+    desk.act("heading")
+    desk.say("")
+    field = desk.window.print
+    desk.act("to_print")
+    field.put_caret(8)
+    field.insertPlainText("#")
+    field.textCursor().deletePreviousChar()
+    assert not desk.is_typed()
+    getattr(desk.window, part).setFocus()
+    desk.act("take_back")
+    assert (field.text, desk.window.message.text[:5]) == (text, said)
+    desk.act("give_up")
+
+
 def test_what_is_typed_is_offered_where_a_book_that_is_gone_was_saved(
     desk: Desk, stays: list[str]
 ) -> None:

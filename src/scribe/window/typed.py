@@ -35,11 +35,13 @@ class Typed:
 
     def take_back(self) -> None:
         """Takes back what was typed last, or else what was done last."""
-        desk = self.desk
-        document = desk.window.print.document()
+        desk, field = self.desk, self.desk.window.print
+        document = field.document()
         assert document is not None
-        if (desk.is_typed() or desk.new) and document.isUndoAvailable():
-            desk.window.print.undo()
+        # what was typed and taken away again may be wanted too, by who is in the print
+        is_there = desk.is_typed() or desk.new or desk.window.focusWidget() is field
+        if is_there and document.isUndoAvailable():
+            field.undo()
             return
         if not desk.settle() or not self._is_taken_back():
             return
