@@ -203,6 +203,26 @@ def test_a_window_is_ended_also_while_the_program_does_not_answer(
     assert prints(moon)[0] == "The Moon"
 
 
+def test_a_window_is_ended_also_while_the_book_is_being_opened(
+    moon: Path, at: Open
+) -> None:
+    program = moon.with_name("program")
+    program.write_text(
+        '#!/bin/sh\nwhile [ "$1" = session ]; do sleep 1; done\n'
+        f'exec "{os.environ["BRAILDESK"]}" "$@"\n'
+    )
+    program.chmod(0o755)
+    window = at(moon, is_waited_for=False, BRAILDESK=str(program))
+    _session_of(window)
+    window.program.send_signal(signal.SIGTERM)
+    shown, said = window.program.communicate(timeout=120)
+    assert " ".join(said.decode().split()) == (
+        "Stopped by SIGTERM. What was reported as kept is in the book, and what was asked after that"
+        " may be there too."
+    )
+    assert (window.program.returncode, shown) == (-signal.SIGTERM, b"")
+
+
 def _session_of(window: Reader) -> int:
     """The number of the process of the session of a window."""
     task = Path(f"/proc/{window.program.pid}/task")

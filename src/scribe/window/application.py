@@ -112,13 +112,16 @@ class Application:
             self._leave(_NO_SCREEN)
 
     def begin(self) -> None:
-        """Opens the book; raises what the client raises."""
+        """Opens the book; raises what the client raises, and `Interrupted` if a signal came first."""
         desk = self._desk
         try:
-            desk.begin()
-        except BaseException:
+            with self._ending_in_order():
+                desk.begin()
+        except BaseException as cause:
             desk.is_closed = True
             desk.close()
+            if isinstance(cause, Interrupted) and self._ended_by is not None:
+                raise Interrupted(self._ended_by) from None
             raise
 
     def tell(self, sentence: str) -> None:
@@ -129,21 +132,12 @@ class Application:
     def run(self) -> None:
         """Shows the book until its window is closed; raises what ends it otherwise."""
         desk = self._desk
-        before, sys.excepthook = sys.excepthook, self._failed
-        ends, notifier = self._take_signals()
-        try:
-            desk.window.show()
-            desk.window.activateWindow()
-            desk.window.table.setFocus()
-            QTimer.singleShot(0, lambda: desk.acting(self._offer))
-            self._qt.exec()
-        finally:
-            signal.set_wakeup_fd(-1)
-            notifier.setEnabled(False)
-            for end in ends:
-                end.close()
-            self._close()
-            sys.excepthook = before
+        with self._ending_in_order():
+            try:
+                if not desk.is_ending:
+                    self._show()
+            finally:
+                self._close()
         cause = self._fault
         if cause is None and self._ended_by is not None:
             cause = Interrupted(self._ended_by)
@@ -152,6 +146,28 @@ class Application:
                 kept = "" if isinstance(cause, Lost) else _KEPT
                 cause.add_note(f"{kept} {waits}".strip())
             raise cause
+
+    def _show(self) -> None:
+        desk = self._desk
+        desk.window.show()
+        desk.window.activateWindow()
+        desk.window.table.setFocus()
+        QTimer.singleShot(0, lambda: desk.acting(self._offer))
+        self._qt.exec()
+
+    @contextmanager
+    def _ending_in_order(self) -> Iterator[None]:
+        """Has signals and faults end the window in order, also while it waits."""
+        before, sys.excepthook = sys.excepthook, self._failed
+        ends, notifier = self._take_signals()
+        try:
+            yield
+        finally:
+            signal.set_wakeup_fd(-1)
+            notifier.setEnabled(False)
+            for end in ends:
+                end.close()
+            sys.excepthook = before
 
     def _close(self) -> None:
         desk = self._desk
@@ -184,7 +200,7 @@ class Application:
     def _take_signals(
         self,
     ) -> tuple[tuple[socket.socket, socket.socket], QSocketNotifier]:
-        """Has signals end the window in order, also while it waits for a key."""
+        """Has signals end the window."""
         ends = socket.socketpair()
         for end in ends:
             end.setblocking(False)
