@@ -158,12 +158,12 @@ TOO_MUCH = (
 
 
 @pytest.mark.parametrize(
-    "line, times, answer, count, most",
+    "line, times, end, answer, count, most",
     [
-        ("a", 99_993, None, 100_001, 100_000),
-        ("a", 5_000_000, None, 5_000_008, 100_000),
-        ("a\n", 500_000, None, 500_008, 500_000),
-        ("a\n", 50_000, 1, 100_008, 100_000),
+        ("a", 99_993, "", None, 100_001, 100_000),
+        ("a", 5_000_000, "\nb", None, 5_000_008, 100_000),
+        ("a\n", 500_000, "", None, 500_008, 500_000),
+        ("a\n", 50_000, "", 1, 100_008, 100_000),
     ],
 )
 def test_more_than_can_be_typed_is_said_to_be_kept_elsewhere_and_changes_nothing(
@@ -171,13 +171,14 @@ def test_more_than_can_be_typed_is_said_to_be_kept_elsewhere_and_changes_nothing
     given: Answers,
     line: str,
     times: int,
+    end: str,
     answer: int | None,
     count: int,
     most: int,
 ) -> None:
     given["choices"] = [answer]
     desk.window.print.put_caret(8)
-    pasted(desk, Text=line * times)
+    pasted(desk, Text=line * times + end)
     assert desk.window.message.text == TOO_MUCH.format(count, most)
     assert (desk.window.print.text, desk.draft()) == ("The Moon", None)
     # as much as there is room for is typed

@@ -268,17 +268,28 @@ class Print(Field):
         if not text:
             self.nothing_pasted.emit()
             return
-        lines, here = lines_of(text), self.selected
-        most = MOST_OF_LINES if len(lines) > 1 else MOST_OF_ONE
-        whole = len(self.text) - (here.stop - here.start) + sum(map(len, lines))
-        if lines and whole > most:
-            self.too_much_pasted.emit(whole, most)
-        elif len(lines) > 1:
+        lines = lines_of(text)
+        if self._is_too_much(lines):
+            return
+        if len(lines) > 1:
             self._hand_on(_with_end(self._parted(lines, text), text))
         elif lines:
             self.textCursor().insertText(*self._parted(lines, text))
         # the caret is seen where the text ends
         self.ensureCursorVisible()
+
+    def _is_too_much(self, lines: list[str]) -> bool:
+        """Whether lines are too long to be pasted here, which is said then."""
+        here, found = self.selected, list(map(len, lines))
+        others = len(self.text) - (here.stop - here.start)
+        for count, most in (
+            (others + max(found, default=0), MOST_OF_ONE),
+            (others + sum(found), MOST_OF_LINES),
+        ):
+            if count > most:
+                self.too_much_pasted.emit(count, most)
+                return True
+        return False
 
     def _parted(self, lines: list[str], text: str) -> list[str]:
         """Lines of a text, parted by a blank from words here if it has one there or an end of a line."""
