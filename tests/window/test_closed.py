@@ -18,6 +18,7 @@ from scribe.window.desk import Desk
 from conftest import Open
 from test_whole import prints_of
 
+STRUCK = "Paragraph 1 is struck. Ctrl+D restores it, so that it can be changed. Nothing was typed."
 _LOST = "What is typed can't be kept elsewhere: it is lost if the window is closed."
 
 
@@ -183,6 +184,30 @@ def test_letters_that_come_after_a_refusal_are_typed_on(desk: Desk) -> None:
     press("t")
     assert window.print.text == "#sThe Moon"
     window.print.setPlainText("The Moon")
+
+
+@pytest.mark.parametrize(
+    "is_struck, letter, held, said",
+    [
+        (True, "x", Qt.KeyboardModifier.NoModifier, STRUCK),
+        (True, "v", Qt.KeyboardModifier.ControlModifier, STRUCK),
+        (False, "x", Qt.KeyboardModifier.NoModifier, ""),
+    ],
+)
+def test_what_is_typed_in_a_struck_paragraph_is_said_not_to_be(
+    desk: Desk, is_struck: bool, letter: str, held: Qt.KeyboardModifier, said: str
+) -> None:
+    if is_struck:
+        desk.act("strike")
+    desk.act("to_print")
+    desk.say("")
+    code, kind = Qt.Key(ord(letter.upper())), QEvent.Type.KeyPress
+    QApplication.sendEvent(desk.window.print, QKeyEvent(kind, code, held, letter))
+    assert desk.window.message.text == said
+    focused = desk.window.message if said else desk.window.print
+    assert desk.window.focusWidget() is focused
+    assert (desk.window.print.text == "The Moon") is is_struck
+    desk.act("give_up")
 
 
 def test_the_newest_correction_is_taken_back_by_its_key_where_it_was_typed(

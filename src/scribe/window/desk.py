@@ -63,6 +63,7 @@ Result = TypeVar("Result")
 NO_PARAGRAPH = "The book has no paragraph yet. Ctrl+Enter begins one."
 STRUCK = "is struck. Ctrl+D restores it, so that it can be changed."
 CLOSED = "The book is closed: Open the book again, in the menu Book, opens it."
+_NOT_SHOWN = "has a character that a window can't show. scribe edit changes it."
 _ONLY_HERE = (
     "What is typed can't be kept elsewhere: it is lost if the window is closed."
 )
@@ -141,6 +142,7 @@ class Desk:
             field.left.connect(self.go_back)
         window.message.entered.connect(self.go_back)
         window.message.typed_on.connect(self._type_on)
+        window.print.typed_on.connect(lambda _: self._refuse_to_type())
         # Enter is where the print is typed, as on the screen
         window.table.activated.connect(lambda _: self.act("to_print"))
         window.cells.entered.connect(lambda: self.act("to_print"))
@@ -291,6 +293,14 @@ class Desk:
         if self._is_refused and self._came_from is field and not field.isReadOnly():
             self.go_back()
             field.textCursor().insertText(typed)
+
+    def _refuse_to_type(self) -> None:
+        """Says why nothing can be typed in the print, to hands that type there."""
+        why = NO_PARAGRAPH
+        if self.reading is not None:
+            its = self.reading.its.paragraph
+            why = f"Paragraph {its.id} {STRUCK if its.struck else _NOT_SHOWN}"
+        self.refuse(f"{why} Nothing was typed.")
 
     # what is chosen and shown
 

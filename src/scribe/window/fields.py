@@ -250,6 +250,14 @@ class Print(Field):
                 return False
         return super().event(event)
 
+    def keyPressEvent(self, event: QKeyEvent | None) -> None:
+        """Says of what is pasted too that it came where nothing can be typed."""
+        is_pasted = event is not None and event.matches(QKeySequence.StandardKey.Paste)
+        if is_pasted and self.isReadOnly():
+            self.typed_on.emit("")
+        else:
+            super().keyPressEvent(event)
+
     def have_kept(self) -> None:
         """What was typed is kept, and isn't taken back as what is typed any more."""
         document = self.document()
