@@ -20,7 +20,7 @@ from scribe.window import dialogs
 from scribe.window.actions import Actions
 from scribe.window.desk import Desk
 
-from reader import Reader
+from reader import PATIENCE_SECONDS, Reader
 
 Open = Callable[..., Reader]
 Answers = dict[str, Any]

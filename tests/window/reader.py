@@ -37,7 +37,7 @@ _KEYS = {
 }
 _MASKS = {"Shift": 1 << 0, "Ctrl": 1 << 2, "Alt": 1 << 3}
 # how long a state is waited for; a test that holds never waits so long
-_PATIENCE_SECONDS = float(os.environ.get("PATIENCE", "120"))
+PATIENCE_SECONDS = float(os.environ.get("PATIENCE", "120"))
 _PACE_SECONDS = 0.02
 # the roles of parts that a window has from its front to its end, by names that stay
 _LASTING = ("text", "table")
@@ -74,7 +74,7 @@ class Reader:
 
     def until(self, what: str, found: Callable[[], Found | None]) -> Found:
         """What is found, as soon as it is."""
-        end = time.monotonic() + _PATIENCE_SECONDS
+        end = time.monotonic() + PATIENCE_SECONDS
         while True:
             try:
                 there = found()
@@ -282,7 +282,7 @@ class Reader:
     def end(self) -> int:
         """The status of the window that is being closed."""
         try:
-            return self.program.wait(_PATIENCE_SECONDS)
+            return self.program.wait(PATIENCE_SECONDS)
         finally:
             self.kill()
 

@@ -21,7 +21,7 @@ from scribe.window import dialogs
 from scribe.window.desk import Desk
 
 from conftest import Open
-from reader import Reader
+from reader import PATIENCE_SECONDS, Reader
 
 MANY = 300
 #: Stands in the place of the program, and waits where it is told.
@@ -64,7 +64,7 @@ def cancelled(monkeypatch: pytest.MonkeyPatch) -> Cancelled:
             def say_and_wait(say: dialogs.Say, line: str) -> None:
                 say(line)
                 if progress in line:
-                    clicked.wait(60)
+                    clicked.wait(PATIENCE_SECONDS)
 
             return long(
                 over,
@@ -248,7 +248,7 @@ def test_enter_does_not_end_what_takes_long(
             pressed.set()
 
     def work(say: dialogs.Say, is_stopped: dialogs.IsStopped) -> bool:
-        return pressed.wait(60) and is_stopped()
+        return pressed.wait(PATIENCE_SECONDS) and is_stopped()
 
     timer = QTimer()
     timer.timeout.connect(press)

@@ -15,7 +15,7 @@ from scribe.window.desk import Desk
 
 from conftest import Open, wait
 from portal import CONTRAST, Key, OF_GNOME, Portal, SCHEME
-from reader import Part, Reader
+from reader import PATIENCE_SECONDS, Part, Reader
 
 BLACK, WHITE = "#000000", "#ffffff"
 #: A program for settings that says so, and one that says nothing and doesn't end.
@@ -168,12 +168,12 @@ def test_a_size_that_was_chosen_in_high_contrast_stays(
     portal, before = lends((CONTRAST, "1")), application.palette()
     contrast = Contrast(application)
     contrast.follow()
-    assert wait(application, 60, lambda: not is_of(application, before))
+    assert wait(application, PATIENCE_SECONDS, lambda: not is_of(application, before))
     desk.window.enlarge(2)
     fields = desk.window.print, desk.window.cells, desk.window.page
     sizes = [field.font().pointSizeF() for field in fields]
     portal.set(CONTRAST, "0")
-    assert wait(application, 60, lambda: is_of(application, before))
+    assert wait(application, PATIENCE_SECONDS, lambda: is_of(application, before))
     assert [field.font().pointSizeF() for field in fields] == sizes
 
 
@@ -188,6 +188,6 @@ def test_kde_has_colours_of_its_own(
     monkeypatch.setenv("XDG_CURRENT_DESKTOP", "ubuntu:GNOME")
     of_gnome = Contrast(application)
     of_gnome.follow()
-    assert wait(application, 60, lambda: not is_of(application, before))
+    assert wait(application, PATIENCE_SECONDS, lambda: not is_of(application, before))
     portal.set(CONTRAST, "0")
-    assert wait(application, 60, lambda: is_of(application, before))
+    assert wait(application, PATIENCE_SECONDS, lambda: is_of(application, before))

@@ -15,7 +15,7 @@ from braildesk.desk.drafts import Drafts
 from scribe.words.console import WAITING
 
 from conftest import Open, prints
-from reader import Reader
+from reader import PATIENCE_SECONDS, Reader
 
 
 def _waits(window: Reader, book: Path, text: str) -> None:
@@ -137,7 +137,10 @@ def test_a_terminal_alone_reads_why_a_book_is_not_shown(moon: Path) -> None:
     terminal, its_end = os.openpty()
     words = [sys.executable, "-m", "scribe", "window", str(moon)]
     with Session(moon):
-        assert subprocess.run(words, stderr=its_end, timeout=60).returncode == 2
+        assert (
+            subprocess.run(words, stderr=its_end, timeout=PATIENCE_SECONDS).returncode
+            == 2
+        )
     assert b"Another program has" in os.read(terminal, 1000)
     os.close(terminal)
     os.close(its_end)
@@ -153,7 +156,7 @@ def test_a_book_that_is_gone_is_not_said_to_be_at_a_version(
         window.press("Ctrl+t")
         window.focus("text", "Message")
     window.press("Ctrl+q")
-    shown, said = window.program.communicate(timeout=60)
+    shown, said = window.program.communicate(timeout=PATIENCE_SECONDS)
     assert window.program.returncode == (3 if is_kept else 0)
     assert shown == b""
     assert " ".join(said.decode().split()).startswith(
@@ -298,7 +301,7 @@ def test_where_the_x_server_ends_what_is_typed_is_kept_and_that_is_said(
         server.kill()
     os.close(reading)
     os.close(writing)
-    shown, said = window.program.communicate(timeout=60)
+    shown, said = window.program.communicate(timeout=PATIENCE_SECONDS)
     assert (window.program.returncode, shown) == (3, b"")
     sentence = (
         "The screen is gone: its X server or its compositor ended. What was reported as kept is in"
@@ -314,7 +317,9 @@ def test_where_the_x_server_ends_what_is_typed_is_kept_and_that_is_said(
 def test_a_screen_that_is_not_there_is_said(moon: Path) -> None:
     words = [sys.executable, "-m", "scribe", "window", str(moon)]
     its = {**os.environ, "DISPLAY": ":12345"}
-    ended = subprocess.run(words, env=its, capture_output=True, timeout=60)
+    ended = subprocess.run(
+        words, env=its, capture_output=True, timeout=PATIENCE_SECONDS
+    )
     assert ended.returncode == 3
     assert " ".join(ended.stderr.decode().split()).endswith(
         "The screen that DISPLAY or WAYLAND_DISPLAY names can't be reached. Nothing was changed."

@@ -76,7 +76,10 @@ def test_a_low_window_shows_the_message_and_the_part_with_the_focus(
     window.show()
     window.resize(LOW)
     window.activateWindow()
-    assert wait(application, 60, window.isActiveWindow) and window.size() == LOW
+    assert (
+        wait(application, PATIENCE_SECONDS, window.isActiveWindow)
+        and window.size() == LOW
+    )
     assert _is_seen(window.message, window.message.contentsRect().center())
     window.cells.show_text("⠠⠍⠕⠕⠝")
     window.cells.setFocus()
