@@ -1,11 +1,11 @@
 """What the tests of the desk share: the built program, and books made by it."""
 
 import fcntl
+import gc
 import os
 import shutil
 import signal
-from collections.abc import Iterator, Sequence
-from itertools import groupby
+from collections.abc import Iterator
 from pathlib import Path
 from tempfile import TemporaryDirectory
 
@@ -31,11 +31,16 @@ for each in (signal.SIGHUP, signal.SIGTERM):
 TAKEN = os.environ.get("TAKEN")
 
 
+def pytest_collection(session: pytest.Session) -> bool | None:
+    """Reads no file before it is taken, if processes run the tests side by side."""
+    return None if TAKEN is None or session.config.option.collectonly else True
+
+
 def pytest_runtestloop(session: pytest.Session) -> bool | None:
     """Runs the tests of the files that no other process has taken."""
-    if TAKEN is None or session.config.option.collectonly or session.testsfailed:
+    if TAKEN is None or session.config.option.collectonly:
         return None
-    items = taken(session.items, Path(TAKEN))
+    items = taken(session, Path(TAKEN))
     item = next(items, None)
     while item is not None:
         # the next file is taken once the last test of this one is to begin
@@ -49,14 +54,20 @@ def pytest_runtestloop(session: pytest.Session) -> bool | None:
     return True
 
 
-def taken(items: Sequence[pytest.Item], folder: Path) -> Iterator[pytest.Item]:
-    """The tests of each file that this process is the first to take."""
-    for path, its in groupby(items, key=lambda item: item.path):
+def taken(session: pytest.Session, folder: Path) -> Iterator[pytest.Item]:
+    """The tests of each file that this process is the first to take, which is read by then."""
+    count = 0
+    for path in sorted(Path(__file__).parent.glob("test_*.py")):
         try:
             (folder / path.name).mkdir()
         except FileExistsError:
             continue
-        yield from its
+        items = session.perform_collect([str(path)])
+        count += len(items)
+        session.testscollected = count
+        # what was imported stays, and isn't looked at again whenever garbage is
+        gc.freeze()
+        yield from items
 
 
 SAMPLE = Path(__file__).resolve().parents[2] / "sample"

@@ -1346,10 +1346,10 @@ def test_a_page_that_is_nested_too_deeply_is_refused_before_it_is_read(
         assert found.value.why is WhyNot.TOO_DEEP
 
 
-#: A document of 100,000 words takes 4 seconds, nearly all of a processor, where nothing else runs. The
-#: processor's seconds are counted, since those of the clock are other programs' too; where there is
-#: much other work they are three times as many.
-SECONDS = 25
+#: A document of 50,000 words takes 2 seconds, nearly all of a processor, where nothing else runs. The
+#: processor's seconds are counted, since those of the clock are other programs' too; where there is much
+#: other work they are three times as many.
+SECONDS = 12
 
 
 def of_processor() -> float:
@@ -1358,12 +1358,12 @@ def of_processor() -> float:
     return sum(used.ru_utime + used.ru_stime for used in map(resource.getrusage, kinds))
 
 
-def test_a_document_of_a_hundred_thousand_words_is_read_in_seconds(
+def test_a_document_of_fifty_thousand_words_is_read_in_a_few_seconds(
     tmp_path: Path,
 ) -> None:
     words = [f"{a}{b}ly" for a in ("sea", "moon", "tide") for b in range(70)]
     body, wanted = "", []
-    for n in range(5_000):
+    for n in range(2_500):
         text = " ".join(words[(7 * n + k * (3 * k + n)) % 210] for k in range(20))
         # each other paragraph has a note, so that it doesn't read as in the file
         nth = n // 2 + 1
@@ -1371,7 +1371,7 @@ def test_a_document_of_a_hundred_thousand_words_is_read_in_seconds(
         body += paragraph(noted)
         its = [f"{text}[{nth}]", f"[{nth}: Nearly.]"] if n % 2 == 0 else [text]
         wanted += its
-    notes = [(nth, "Nearly.") for nth in range(1, 2_501)]
+    notes = [(nth, "Nearly.") for nth in range(1, 1_251)]
     path = docx(tmp_path / "long.docx", body, notes)
     began = of_processor()
     found = read_manuscript(path)

@@ -2,7 +2,7 @@
 
 import ast
 import builtins
-from collections.abc import Iterator
+from collections.abc import Iterable, Iterator
 from pathlib import Path
 
 import pytest
@@ -10,6 +10,8 @@ import pytest
 from tool import ROOT
 
 SRC = ROOT / "src"
+#: What is looked at of a module.
+Statement = ast.Import | ast.ImportFrom | ast.ClassDef
 #: The folders of the package braildesk, the lowest one first: each may import from those before it.
 BRAILDESK = (
     "braildesk.text",
@@ -51,9 +53,16 @@ def layer_of(module: str) -> str:
     )
 
 
-def imported(source: str) -> Iterator[str]:
-    """The modules that a module imports, anywhere in it, and names that may be modules."""
+def statements(source: str) -> Iterator[Statement]:
+    """The imports and the classes of a module, anywhere in it."""
     for node in ast.walk(ast.parse(source)):
+        if isinstance(node, Statement):
+            yield node
+
+
+def imported(its: Iterable[Statement]) -> Iterator[str]:
+    """The modules that a module imports, and names that may be modules."""
+    for node in its:
         if isinstance(node, ast.Import):
             yield from (alias.name for alias in node.names)
         elif isinstance(node, ast.ImportFrom):
@@ -71,11 +80,11 @@ def is_module(name: str) -> bool:
     return path.is_dir() or path.with_suffix(".py").is_file()
 
 
-def reaching(module: str, source: str) -> set[str]:
+def reaching(module: str, its: Iterable[Statement]) -> set[str]:
     """What a module imports that its folder may not import."""
     layer = layer_of(module)
     found = set()
-    for name in imported(source):
+    for name in imported(its):
         top = name.split(".")[0]
         if top in ("braildesk", "scribe"):
             if layer_of(name) not in (layer, *BELOW[layer]):
@@ -94,11 +103,22 @@ def modules() -> dict[str, Path]:
     return found
 
 
-def test_no_module_imports_from_a_folder_that_is_not_below_its_own() -> None:
+@pytest.fixture(scope="module")
+def all_statements() -> dict[str, list[Statement]]:
+    """The imports and the classes of each module, by its name."""
+    return {
+        module: list(statements(path.read_text(encoding="utf-8")))
+        for module, path in sorted(modules().items())
+    }
+
+
+def test_no_module_imports_from_a_folder_that_is_not_below_its_own(
+    all_statements: dict[str, list[Statement]],
+) -> None:
     found = {
         module: reach
-        for module, path in sorted(modules().items())
-        if (reach := reaching(module, path.read_text(encoding="utf-8")))
+        for module, its in all_statements.items()
+        if (reach := reaching(module, its))
     }
     assert found == {}
 
@@ -144,14 +164,16 @@ def test_no_module_imports_from_a_folder_that_is_not_below_its_own() -> None:
 def test_an_import_of_what_is_not_below_is_found(
     module: str, source: str, found: set[str]
 ) -> None:
-    assert reaching(module, source) == found
+    assert reaching(module, statements(source)) == found
 
 
-def test_no_method_has_the_name_of_a_function_that_python_has() -> None:
+def test_no_method_has_the_name_of_a_function_that_python_has(
+    all_statements: dict[str, list[Statement]],
+) -> None:
     found = [
         f"{module}.{each.name}.{method.name}"
-        for module, path in sorted(modules().items())
-        for each in ast.walk(ast.parse(path.read_text(encoding="utf-8")))
+        for module, its in all_statements.items()
+        for each in its
         if isinstance(each, ast.ClassDef)
         for method in each.body
         if isinstance(method, ast.FunctionDef) and method.name in vars(builtins)
@@ -163,11 +185,13 @@ def test_no_method_has_the_name_of_a_function_that_python_has() -> None:
 ROWS = {"MarkOfBook", "Position", "Reply", "Span", "TextLine"}
 
 
-def test_only_rows_of_which_many_are_made_are_named_tuples() -> None:
+def test_only_rows_of_which_many_are_made_are_named_tuples(
+    all_statements: dict[str, list[Statement]],
+) -> None:
     found = {
         node.name
-        for path in SRC.rglob("*.py")
-        for node in ast.walk(ast.parse(path.read_text(encoding="utf-8")))
+        for its in all_statements.values()
+        for node in its
         if isinstance(node, ast.ClassDef)
         and any(isinstance(b, ast.Name) and b.id == "NamedTuple" for b in node.bases)
     }
