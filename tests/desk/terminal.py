@@ -119,6 +119,7 @@ class Terminal:
         settings |= more
         self._screen = pyte.Screen(columns, lines)
         self._stream = pyte.ByteStream(self._screen)
+        self._shown = [""] * lines
         self.written = b""
         #: How often the screen was drawn to its end, until now and until the last key.
         self._drawn = self._drawn_before = 0
@@ -145,8 +146,19 @@ class Terminal:
 
     @property
     def lines(self) -> list[str]:
-        """The lines of the screen."""
-        return [line.rstrip() for line in self._screen.display]
+        """The lines of the screen, of which only those are looked at that were drawn anew."""
+        screen = self._screen
+        drawn, count = screen.dirty, screen.lines
+        self._shown = [*self._shown, *[""] * count][:count]
+        # an accent that is drawn at the front of a line stands at the end of the one before
+        for number in drawn | {each - 1 for each in drawn}:
+            if 0 <= number < count:
+                cells = screen.buffer[number]
+                # the second cell of a wide character has nothing
+                its = [cells[column].data for column in range(screen.columns)]
+                self._shown[number] = "".join(its).rstrip()
+        drawn.clear()
+        return [*self._shown]
 
     @property
     def cursor(self) -> tuple[int, int]:

@@ -56,7 +56,7 @@ def layer_of(module: str) -> str:
 def statements(source: str) -> Iterator[Statement]:
     """The imports and the classes of a module, anywhere in it."""
     for node in ast.walk(ast.parse(source)):
-        if isinstance(node, Statement):
+        if isinstance(node, ast.Import | ast.ImportFrom | ast.ClassDef):
             yield node
 
 
