@@ -270,7 +270,7 @@ class Session(Asking):
             raise RuntimeError("the answers of each() are still being given")
 
     def _judge_thread(self) -> None:
-        if _here() != self._owner:
+        if (os.getpid(), threading.get_ident()) != self._owner:
             raise RuntimeError(
                 "A session can be used by the thread that opened it alone. Nothing was sent. Open"
                 " the book in the thread that uses it."

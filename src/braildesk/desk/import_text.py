@@ -37,7 +37,7 @@ from braildesk.desk.origin import standing
 from braildesk.desk.replacements import read_replacements
 from braildesk.desk.typist import CutShort, look_for, type_all
 from braildesk.desk.unfinished import digest_of, unfinished
-from braildesk.desk.validation import faults
+from braildesk.desk.validation import are_plain, faults
 from braildesk.named_files import is_handed_over
 from braildesk.protocol.value import Value
 from braildesk.session import session_beside
@@ -408,7 +408,10 @@ def _intake(
         made = made_from(table.text)
         raise Faulty(job.text, found_faults, len(book), len(rest), made)
     lacking = settings(before[-1], anchor.id, anchor) if before and anchor else ()
-    return Intake(version, len(book), rest, job.after, table, tuple(lacking))
+    is_composed = are_plain(characters)
+    return Intake(
+        version, len(book), rest, job.after, table, tuple(lacking), is_composed
+    )
 
 
 def _parted(

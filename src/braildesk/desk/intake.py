@@ -87,6 +87,8 @@ class Intake(Value):
     table: Table
     #: What the paragraph before the first of these lacks, if the import was cut short after it.
     lacking: tuple[Command[Any], ...] = ()
+    #: Whether the passages are in normal form C as they stand in the file.
+    is_composed: bool = False
 
     def requests(self) -> Iterator[Command[Any]]:
         """A request for each paragraph, and one for each setting of it, which comes after it.
@@ -99,7 +101,8 @@ class Intake(Value):
             yield replace(each, expect=next(versions))
         after, table = self.after, self.table.name
         for number, passage in enumerate(self.passages, start=self.there + 1):
-            yield Type(after, table, passage.text, expect=next(versions))
+            text = passage.joined if self.is_composed else passage.text
+            yield Type(after, table, text, expect=next(versions))
             for each in settings(passage, number):
                 yield replace(each, expect=next(versions))
             if after != "end":

@@ -28,13 +28,24 @@ def faults(
     If all characters of the file are given and defined, the paragraphs aren't gone through for
     them. Beside that something else may be done.
     """
-    if characters and _are_defined(characters, table, while_waiting, beside):
+    if _are_defined(characters, table, while_waiting, beside):
         if all(each.length <= limits.PRINT_CHARACTERS for each in passages):
             return []
     # imported here, since few texts are at fault
     from braildesk.desk.text_faults import found_faults
 
     return found_faults(passages, table, while_waiting)
+
+
+def are_plain(characters: Collection[str]) -> bool:
+    """Whether all characters of a file are given, and none is joined in normal form C."""
+    return bool(characters) and is_plain("".join(_in_print(characters)))
+
+
+def _in_print(characters: Collection[str]) -> set[str]:
+    """The characters of the paragraphs of a file."""
+    # lines are joined by a blank, and other blanks become one
+    return {*characters}.difference(_NONE_IN_PRINT).union(" ")
 
 
 def _are_defined(
@@ -44,10 +55,8 @@ def _are_defined(
     beside: Callable[[], object],
 ) -> bool:
     """Whether a table has all characters of a file, of which none is joined in normal form C."""
-    # lines are joined by a blank, and other blanks become one
-    others = {*characters}.difference(_NONE_IN_PRINT).union(" ")
-    if not is_plain("".join(others)):
+    if not are_plain(characters):
         return False
-    asked = sorted(others)
+    asked = sorted(_in_print(characters))
     answers = translate_beside(table, asked, beside, while_waiting=while_waiting)
     return not any(isinstance(answer, Refused) for answer in answers)

@@ -11,10 +11,8 @@ from braildesk.text.characters import shortened
 
 _NUMBER = re.compile("[0-9]{1,16}")
 _PLAIN_NAME = re.compile(f"[a-z0-9_-]{{1,{limits.NAME_CHARACTERS}}}")
-_BARRED = re.compile("[\n\r\0]")
 # compiled where they are looked for, since that takes long and few commands need it
 _NO_NAME = "[ \n\r\0\ud800-\udfff]"
-_SURROGATE = "[\ud800-\udfff]"
 
 
 class Unwritable(ValueError):
@@ -141,7 +139,8 @@ class Name(Field):
     """A name, which is one or more characters that aren't blanks."""
 
     def write(self, value: str) -> str:
-        if not value or re.search(_NO_NAME, value):
+        # a name of letters and digits has nothing that is looked for
+        if not value.isalnum() and (not value or re.search(_NO_NAME, value)):
             raise Unwritable(self.code)
         return value
 
@@ -162,13 +161,15 @@ class Text(Field):
     is_rest = True
 
     def write(self, value: str) -> str:
-        if value.isprintable():
-            # so that nothing that is barred is in it
-            return value
-        if lone := re.search(_SURROGATE, value):
-            raise Unwritable(Code.NO_REQUEST, lone.start())
-        if barred := _BARRED.search(value):
-            raise Unwritable(Code.BARRED_CHARACTER, barred.start())
+        try:
+            # only what is half of a pair of UTF-16 has no bytes
+            value.encode()
+        except UnicodeEncodeError as lone:
+            raise Unwritable(Code.NO_REQUEST, lone.start) from None
+        # looked for one by one, which takes a tenth of the time of a walk along the text
+        if "\n" in value or "\r" in value or "\0" in value:
+            place = min(value.index(barred) for barred in "\n\r\0" if barred in value)
+            raise Unwritable(Code.BARRED_CHARACTER, place)
         return value
 
     def read(self, word: str) -> str:

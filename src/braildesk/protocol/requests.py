@@ -98,17 +98,20 @@ class Request(ABC, Generic[Answer]):
 
     def head(self) -> list[str]:
         """The words of its line."""
-        kinds = fields_of(type(self)).items()
-        return [self.name, *(self._written(key, kind) for key, kind in kinds)]
+        words = [self.name]
+        for key, kind in fields_of(type(self)).items():
+            value = getattr(self, key)
+            if not isinstance(value, kind.types):
+                raise self._mistyped(key, kind)
+            words.append(kind.write(value))
+        return words
 
-    def _written(self, key: str, kind: Field) -> str:
-        """A field of its line; `TypeError` if its value is of another type."""
-        value = getattr(self, key)
-        if isinstance(value, kind.types):
-            return kind.write(value)
+    def _mistyped(self, key: str, kind: Field) -> TypeError:
+        """What is raised for a field whose value is of another type."""
         import reprlib  # which few requests need
 
-        raise TypeError(
+        value = getattr(self, key)
+        return TypeError(
             f"In a request {self.name}, {key} has to be {kind.called}, and is"
             f" {reprlib.repr(value)}. Nothing was sent."
         )
@@ -140,10 +143,12 @@ class Command(Request[Answer]):
     expect: int | None = field(default=None, kw_only=True)
 
     def head(self) -> list[str]:
-        head = super().head()
-        if self.expect is None:
-            return head
-        return ["@" + self._written("expect", EXPECTED), *head]
+        words, expected = super().head(), self.expect
+        if expected is not None:
+            if not isinstance(expected, int):
+                raise self._mistyped("expect", EXPECTED)
+            words.insert(0, f"@{EXPECTED.write(expected)}")
+        return words
 
     def in_words(self) -> str:
         kinds = fields_of(type(self)).items()

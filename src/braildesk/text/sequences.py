@@ -90,10 +90,10 @@ def composed(text: str) -> str:
     A sequence that no print can have stays as it is: its marks would be put into their order in a
     time that grows with the square of their number.
     """
-    if len(text) <= _LONGEST:
-        return unicodedata.normalize("NFC", text)
     if text.isascii():
         return text
+    if len(text) <= _LONGEST:
+        return unicodedata.normalize("NFC", text)
     return "".join(
         unicodedata.normalize("NFC", part) if len(part) <= _LONGEST else part
         for chunk in chunks(text)
