@@ -1,10 +1,12 @@
 """The paragraphs of a text file, and where their characters stand in it."""
 
 import tracemalloc
+import unicodedata
 
 import pytest
 
 from braildesk.desk.manuscript import Position, UnreadableText, passages
+from braildesk.text.sequences import belongs, is_plain
 
 from scribe.words.import_text import unreadable
 
@@ -127,3 +129,12 @@ def test_a_file_that_is_not_utf_8_is_refused(data: bytes, sentence: str) -> None
     with pytest.raises(UnreadableText) as refused:
         passages(data, by_lines=True)
     assert unreadable(refused.value).startswith(sentence)
+
+
+def test_characters_that_are_plain_stay_as_they_are_in_normal_form_c() -> None:
+    plain = [chr(code) for code in range(0x3000) if is_plain(chr(code))]
+    assert len(plain) > 800
+    for character in plain:
+        assert unicodedata.is_normalized("NFC", character)
+        # and none is joined to the one before it
+        assert not belongs("a", character)
