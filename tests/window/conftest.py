@@ -162,5 +162,5 @@ def wait(application: QApplication, seconds: float, is_so: Callable[[], bool]) -
 
 def prints(book: Path) -> list[str]:
     """The prints of a book that is closed."""
-    with Session(book, timeout=60) as session:
+    with Session(book, timeout=PATIENCE_SECONDS) as session:
         return [session.print_of(each.id) for each in session.paragraphs()]

@@ -24,6 +24,7 @@ from scribe.window.window import Window
 from scribe.window.worker import Worker
 
 from conftest import wait
+from reader import PATIENCE_SECONDS
 
 LOW = QSize(640, 480)
 # the words of a paragraph, as a question quotes them
