@@ -74,15 +74,23 @@ SAMPLE = Path(__file__).resolve().parents[2] / "sample"
 
 
 @pytest.fixture(scope="session", autouse=True)
-def state_home(tmp_path_factory: pytest.TempPathFactory) -> Iterator[Path]:
-    """The folder in which the tests keep what isn't in a book yet, each book by its own path."""
-    home = tmp_path_factory.mktemp("state")
+def own_desk(tmp_path_factory: pytest.TempPathFactory) -> Iterator[None]:
+    """Nothing is kept where a person's own is, and no window is shown by mistake."""
     with pytest.MonkeyPatch.context() as patched:
-        patched.setenv("XDG_STATE_HOME", str(home))
-        # no window is shown by mistake
+        patched.setenv("XDG_STATE_HOME", str(tmp_path_factory.mktemp("state")))
         for name in ("DISPLAY", "WAYLAND_DISPLAY", "QT_QPA_PLATFORM"):
             patched.delenv(name, raising=False)
-        yield home
+        yield
+
+
+@pytest.fixture(autouse=True)
+def state_home(
+    tmp_path_factory: pytest.TempPathFactory, monkeypatch: pytest.MonkeyPatch
+) -> Path:
+    """The folder in which a test keeps what isn't in a book yet."""
+    home = tmp_path_factory.mktemp("state")
+    monkeypatch.setenv("XDG_STATE_HOME", str(home))
+    return home
 
 
 @pytest.fixture(scope="session")

@@ -330,7 +330,7 @@ class Drafts:
             with suppress(NotSuch, OSError):
                 kept = Record.of(self._folder.read(name) or b"")
                 draft, path = draft_in(kept), kept.path("book")
-                if is_of_book(draft) and not os.path.lexists(path):
+                if not os.path.lexists(path) and is_of_book(draft):
                     self._folder.rename(name, its)
                     return
 
