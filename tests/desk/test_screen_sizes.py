@@ -70,6 +70,25 @@ def test_a_paragraph_of_4000_characters_is_read_and_corrected_to_its_end(
         assert session.print_of(1) == words[:-2] + "!."
 
 
+def test_a_line_begins_after_a_blank_in_the_last_column_and_no_column_goes_out_of_sight(
+    book: Path, at: Open
+) -> None:
+    words = "The moon was as far away as it ever is."
+    with Session(book) as session:
+        session.add_paragraph("end", "en", words)
+    terminal = at(book, 40, 12)
+    terminal.wait("? shows the keys.")
+    terminal.keys("enter", "end", " ")
+    terminal.wait_cursor((5, 0))
+    lines = terminal.wait("⠊⠎⠲")
+    assert lines[0].startswith("version 2") and lines[4:6] == [words, ""]
+    terminal.keys("So", "enter")
+    lines = terminal.wait("last kept: correction 1 of paragraph 1")
+    assert lines[4:6] == [words, "So"] and terminal.cursor == (5, 1)
+    terminal.keys("q")
+    assert terminal.ended() == 0
+
+
 def of_cursor(sat: Sat) -> tuple[str, int]:
     """The line of the cursor, and its place there."""
     line, place = draw(sat.state).cursor

@@ -90,7 +90,7 @@ def body(state: State, room: int) -> Area:
 def _typed(state: State, typed: Field) -> tuple[_Text, _Text]:
     """What is typed, and its braille as far as it is known."""
     cells = state.preview.braille if state.preview and not state.is_quiet else ""
-    place = len(cells) * typed.place // (len(typed.text) or 1)
+    place = max(0, len(cells) - 1) * typed.place // (len(typed.text) or 1)
     text = braille_ascii(cells) if state.is_ascii else cells
     return _Text(typed.text, typed.place), _Text(text, place)
 

@@ -44,8 +44,9 @@ def shown(character: str) -> str:
 def rows(text: str, width: int) -> list[Span]:
     """The places on each line, all of them, broken after blanks; at least one line.
 
-    The last column is left free for a blank at which a line is broken, and for the place after the
-    text. A word that is longer than a line is cut, and no combining sequence is.
+    The last column is left free for a blank at which a line is broken, or for the place after the
+    text, which begins a line where that blank is the last character. A word that is longer than a
+    line is cut, and no combining sequence is.
     """
     room = max(1, width - 1)
     found: list[Span] = []
@@ -63,7 +64,10 @@ def rows(text: str, width: int) -> list[Span]:
         taken += size
         if is_blank:
             broken, since = stop, taken
-    return [*found, Span(start, len(text))]
+    found.append(Span(start, len(text)))
+    if taken > room:
+        found.append(Span(len(text), len(text)))
+    return found
 
 
 # a long text is parted again at each key
