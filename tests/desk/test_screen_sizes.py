@@ -176,6 +176,12 @@ def test_a_terminal_may_change_its_size_while_print_is_typed_or_a_question_waits
         "     4 body: It rose.Then",
         ">    5 body: it set.",
     ]
+    # with a blank the text takes the whole line, and what comes after it stands on the next
+    full = "The tide was high at the old stone pier"
+    terminal.resize(len(full) + 1, 12)
+    terminal.keys(full + " ", "x")
+    terminal.wait_cursor((5, 1))
+    assert terminal.lines[4:6] == [full, "x"]
     terminal.keys("escape", "q")
     assert terminal.ended() == 0
 
