@@ -953,6 +953,15 @@ def test_what_a_text_in_odt_computes_is_typed_as_it_is_shown(tmp_path: Path) -> 
     assert [each.words for each in found.missing] == ["7"]
 
 
+def test_formulas_of_an_odt_that_pandoc_wrote_are_typed(tmp_path: Path) -> None:
+    path = tmp_path / "moon.odt"
+    words = ["pandoc", "--from", "markdown", "--output", str(path)]
+    subprocess.run(words, input=b"Near $x$ and $y + 1$.", check=True)
+    found = read_manuscript(path)
+    assert found.texts == ["Near x and y + 1."]
+    assert lost(found, LossKind.MATHEMATICS) == ["x", "y + 1"]
+
+
 def test_words_of_an_odt_that_a_condition_hides_are_missing(tmp_path: Path) -> None:
     hidden = '<text:hidden-text text:condition="ooow:" text:string-value="Not seen"'
     text = f"<text:p>Seen{hidden}/> or {hidden}>Not seen</text:hidden-text></text:p>"

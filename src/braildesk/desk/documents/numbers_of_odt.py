@@ -9,7 +9,7 @@ from collections.abc import Callable, Iterator, Mapping
 from dataclasses import dataclass, field
 from io import BytesIO
 from xml.etree.ElementTree import Element
-from xml.sax.saxutils import escape
+from xml.sax.saxutils import escape, quoteattr
 from zipfile import ZipFile
 
 from braildesk.desk.documents import tables_of_odt
@@ -24,6 +24,8 @@ _TEXT = "{urn:oasis:names:tc:opendocument:xmlns:text:1.0}"
 _STYLE = "{urn:oasis:names:tc:opendocument:xmlns:style:1.0}"
 _OFFICE = "{urn:oasis:names:tc:opendocument:xmlns:office:1.0}"
 _LOEXT = "{urn:org:documentfoundation:names:experimental:office:xmlns:loext:1.0}"
+_DRAW = "urn:oasis:names:tc:opendocument:xmlns:drawing:1.0"
+_XLINK = "http://www.w3.org/1999/xlink"
 _ID = "{http://www.w3.org/XML/1998/namespace}id"
 _CONTENT, _STYLES = "content.xml", "styles.xml"
 _LIST, _HEADING, _PARAGRAPH = f"{_TEXT}list", f"{_TEXT}h", f"{_TEXT}p"
@@ -80,8 +82,9 @@ def with_odt_numbers(
     the cells that go on over rows.
 
     Further numbers of a note are text, in brackets, and so are fields, as they are shown; styles of words
-    have the emphasis of those that they are based on. Its tables have no heads, and a place for each cell
-    that goes on. It has no pictures any more, which aren't looked at. Raises `NoDocument`.
+    have the emphasis of those that they are based on, and formulas are where pandoc looks for them. Its
+    tables have no heads, and a place for each cell that goes on. It has no pictures any more, which aren't
+    looked at. Raises `NoDocument`.
     """
     made = BytesIO()
     with unpacked(data) as container, ZipFile(made, "w") as other:
@@ -97,6 +100,7 @@ def with_odt_numbers(
         spans = tables_of_odt.Spans(root)
         words = Styles("text", styles, root)
         replaced = words.written(root) | _notes_again(root, brackets) | _fields(root)
+        replaced |= _objects(root)
 
         def front_of(name: str) -> str:
             return escape(next(labels)) if name in (_PARAGRAPH, _HEADING) else ""
@@ -147,6 +151,23 @@ def _fields(root: Element) -> dict[int, str]:
         for each in root.iter()
         if each.tag in _FIELDS and not len(each)
         if each.get(f"{_TEXT}display") != "none"
+    }
+
+
+def _objects(root: Element) -> dict[int, str]:
+    """What stands in place of each object whose address ends in a stroke, by its identity.
+
+    pandoc writes the addresses of formulas so, and doesn't find them there.
+    """
+    addresses = {
+        id(each): each.get(f"{{{_XLINK}}}href", "")
+        for each in root.iter(f"{{{_DRAW}}}object")
+    }
+    return {
+        each: f'<draw:object xmlns:draw="{_DRAW}" xmlns:xlink="{_XLINK}"'
+        f" xlink:href={quoteattr(address.rstrip('/'))}/>"
+        for each, address in addresses.items()
+        if address.endswith("/")
     }
 
 
