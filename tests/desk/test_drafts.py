@@ -182,6 +182,21 @@ def test_a_text_is_offered_for_a_book_from_a_backup_that_has_the_print_where_it_
     assert kept.waiting() == draft
 
 
+def test_a_text_that_was_offered_elsewhere_waits_where_its_disk_is_connected_again(
+    in_folder: Path, sit: Sit
+) -> None:
+    draft = Draft(Aim.AFTER, 2, "en", "The Tides", "It rose.", None, 9)
+    Drafts(in_folder).save(draft)
+    copy = in_folder.parent.with_name("copy.braildesk")
+    shutil.move(in_folder, copy)
+    sit(copy).desk.close()
+    assert Drafts(copy).waiting() == draft
+    # another file by its number, as each is on a disk that the system numbers anew
+    shutil.copyfile(copy, in_folder)
+    sit(in_folder).desk.close()
+    assert Drafts(in_folder).waiting() == draft and Drafts(copy).waiting() is None
+
+
 def test_a_book_is_known_again_by_a_number_of_any_size(
     in_folder: Path, monkeypatch: pytest.MonkeyPatch
 ) -> None:

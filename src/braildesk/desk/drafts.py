@@ -321,7 +321,8 @@ class Drafts:
     def adopt_if(self, is_of_book: Callable[[Draft], bool]) -> None:
         """Takes over a text that waits for a book which isn't at its path any more, if none waits here.
 
-        So a book from a backup or on another disk has it, whose file is another. May raise `OSError`.
+        So a book from a backup or on another disk has it, whose file is another; and a book that is at
+        its path again has what another one took. May raise `OSError`.
         """
         names, its = self._folder.names(), self._name(Begun.WAITING)
         for name in () if its in names else names:
@@ -330,7 +331,8 @@ class Drafts:
             with suppress(NotSuch, OSError):
                 kept = Record.of(self._folder.read(name) or b"")
                 draft, path = draft_in(kept), kept.path("book")
-                if not os.path.lexists(path) and is_of_book(draft):
+                is_free = path == str(self.book) or not os.path.lexists(path)
+                if is_free and is_of_book(draft):
                     self._folder.rename(name, its)
                     return
 
