@@ -32,9 +32,15 @@ _NOT_KNOWN = (errno.EINVAL, errno.ENOSYS, errno.EOPNOTSUPP)
 _NO_LINKS = (errno.EPERM, *_NOT_KNOWN)
 _CHUNK = 1 << 20
 #: Where a file system has the list of who may do what with a file, the bytes before its entries, an
-#: entry (whom it is about, what that one may do, and a number), and what says that it is the group.
-_ACL, _ACL_FRONT, _ACL_ENTRY = "system.posix_acl_access", 4, struct.Struct("<HHI")
-_OF_GROUP = 0x04
+#: entry (whom it is about, what that one may do, and a number), and what says that it is about the
+#: owner of the file, a user, or the group of the file.
+_ACL, _ACL_BEGIN, _ACL_ENTRY = (
+    "system.posix_acl_access",
+    b"\2\0\0\0",
+    struct.Struct("<HHI"),
+)
+_ACL_FRONT = len(_ACL_BEGIN)
+_OF_OWNER, _OF_USER, _OF_GROUP = 0x01, 0x02, 0x04
 _FOLDER = os.O_PATH | os.O_DIRECTORY | os.O_NOFOLLOW | os.O_CLOEXEC
 
 
@@ -205,9 +211,18 @@ def give_access(file: int, like: int) -> None:
 
 
 def give_list(file: int, like: int) -> None:
-    """Gives a file the list of access that another one has, or none."""
+    """Gives a file the list of access that another one has, or none.
+
+    It names the owner of the other one too, if the file is somebody else's.
+    """
+    listed, owner = access_list(like), os.fstat(like).st_uid
+    if listed and os.fstat(file).st_uid != owner:
+        own = max((may for tag, may, _ in listed if tag == _OF_OWNER), default=0)
+        others = [each for each in listed if each[::2] != (_OF_USER, owner)]
+        listed = sorted([*others, (_OF_USER, own, owner)])
     try:
-        os.setxattr(file, _ACL, os.getxattr(like, _ACL))
+        entries = b"".join(_ACL_ENTRY.pack(*each) for each in listed)
+        os.setxattr(file, _ACL, _ACL_BEGIN + entries)
     except OSError:
         with suppress(OSError):
             os.removexattr(file, _ACL)

@@ -21,20 +21,20 @@ def in_time() -> None:
     signal.alarm(WAIT_SECONDS)
 
 
-def become_stranger() -> None:
+def become_stranger(number: int = STRANGER) -> None:
     """Has this process be the stranger's, for good."""
     os.setgroups([])
-    os.setgid(STRANGER)
-    os.setuid(STRANGER)
+    os.setgid(number)
+    os.setuid(number)
 
 
-def as_stranger(act: Callable[[], object]) -> str:
+def as_stranger(act: Callable[[], object], number: int = STRANGER) -> str:
     """The name of the exception that an act of the stranger ends by, or nothing."""
     reader, writer = os.pipe()
     child = os.fork()
     if child == 0:
         try:
-            become_stranger()
+            become_stranger(number)
             act()
         except BaseException as error:
             os.write(writer, type(error).__name__.encode())

@@ -985,6 +985,28 @@ def test_a_log_without_work_is_made_anew_where_others_could_write_it(
 
 
 @NEEDS_ROOT
+def test_a_log_that_a_colleague_began_may_be_written_by_who_owns_the_book(
+    book: Path,
+) -> None:
+    # a colleague may read and write it by a list of access, which names nobody else
+    listed = (1, 6, NOBODY), (2, 6, STRANGER), (4, 0, NOBODY), (16, 6, NOBODY)
+    entries = [struct.pack("<HHI", *each) for each in (*listed, (32, 0, NOBODY))]
+    os.chown(book, STRANGER - 1, -1)
+    try:
+        names = b"".join([struct.pack("<I", 2), *entries])
+        os.setxattr(book, "system.posix_acl_access", names)
+    except OSError:
+        pytest.skip("the file system keeps no such lists")
+    lead_to(book.parent)
+    book.parent.chmod(0o777)
+    log = Path(f"{book}-wal")
+    assert as_stranger(lambda: fit_log(BookFile(str(book)))) == ""
+    assert log.stat().st_uid == STRANGER
+    assert as_stranger(lambda: log.open("r+b").close(), STRANGER - 1) == ""
+    assert as_stranger(lambda: log.open("r+b").close(), STRANGER - 2) != ""
+
+
+@NEEDS_ROOT
 def test_a_log_is_there_as_its_book_is_before_the_program_opens_that(
     book: Path, tmp_path: Path
 ) -> None:
