@@ -11,8 +11,10 @@ from collections.abc import (
     ValuesView,
 )
 from dataclasses import replace
+from io import BytesIO
 from pathlib import Path
 from typing import Any, cast
+from zipfile import ZipFile
 
 import pytest
 
@@ -72,6 +74,20 @@ def test_styles_that_are_based_on_each_other_are_gone_through_once(
     started = time.process_time()
     assert with_numbers(path.read_bytes(), "*")[1] == []
     assert time.process_time() - started < SECONDS
+
+
+def test_the_cells_of_tables_within_each_other_are_counted_once(tmp_path: Path) -> None:
+    cell = f"<w:tc>{paragraph(run('moon'))}</w:tc>"
+    front = "<w:tbl><w:tr><w:tc>" * 60
+    end = "<w:p/></w:tc></w:tr></w:tbl>" * 60
+    body = f"{front}<w:tbl><w:tr>{cell * 5_000}</w:tr></w:tbl>{end}"
+    data = docx(tmp_path / "moon.docx", body).read_bytes()
+    started = time.process_time()
+    made, _ = with_numbers(data, "*")
+    assert time.process_time() - started < SECONDS
+    with ZipFile(BytesIO(made)) as container:
+        tables = container.read("word/document.xml").decode().split("<w:tblGrid>")
+    assert [table.count("<w:gridCol") for table in tables] == [0, *[1] * 60, 1_000]
 
 
 def test_elements_that_stand_within_each_other_without_end_are_refused(

@@ -15,6 +15,7 @@ from braildesk.desk.documents.reading import Loss, LossKind, plain, whole
 _W = "{http://schemas.openxmlformats.org/wordprocessingml/2006/main}"
 _W14 = "{http://schemas.microsoft.com/office/word/2010/wordml}"
 _RUN, _RUBY = f"{_W}r", f"{_W}ruby"
+_TABLE, _ROW, _CELL = f"{_W}tbl", f"{_W}tr", f"{_W}tc"
 _OFF = ("0", "false", "off")
 #: What isn't typed: what was deleted, is in a text box, or is for older programs.
 GONE = (
@@ -134,12 +135,21 @@ def _symbols(root: Element) -> dict[int, str]:
 
 def _grids(root: Element) -> Iterator[tuple[int, str]]:
     """The columns of each table, by the identity of its first row: pandoc reads no cell beyond them."""
-    for table in root.iter(f"{_W}tbl"):
-        rows = [each for each in table.iter(f"{_W}tr")]
-        widths = (sum(map(_width, row.iter(f"{_W}tc"))) for row in rows)
+    for table in root.iter(_TABLE):
+        rows = [*_own(table, _ROW)]
+        widths = (sum(map(_width, _own(row, _CELL))) for row in rows)
         if rows:
             columns = '<w:gridCol w:w="1"/>' * min(max(widths), _WIDEST)
             yield id(rows[0]), f"<w:tblGrid>{columns}</w:tblGrid>"
+
+
+def _own(element: Element, tag: str) -> Iterator[Element]:
+    """The rows of a table, or the cells of a row, without those of tables within it."""
+    for child in element:
+        if child.tag == tag:
+            yield child
+        elif child.tag not in (_TABLE, _ROW, _CELL):
+            yield from _own(child, tag)
 
 
 def _width(cell: Element) -> int:
