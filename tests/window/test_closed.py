@@ -257,6 +257,22 @@ def test_a_letter_that_was_typed_and_taken_away_comes_back_where_one_is_in_the_p
     desk.act("give_up")
 
 
+@pytest.mark.parametrize("act", ["heading", "strike"])
+def test_what_was_done_after_a_letter_was_taken_away_is_taken_back_before_it(
+    desk: Desk, act: str
+) -> None:
+    field = desk.window.print
+    desk.act("to_print")
+    field.put_caret(8)
+    field.insertPlainText("#")
+    field.textCursor().deletePreviousChar()
+    desk.act(act)
+    assert desk.window.focusWidget() is field
+    desk.act("take_back")
+    assert desk.window.message.text.startswith("Taken back: paragraph 1 ")
+    assert field.text == "The Moon"
+
+
 def test_what_is_typed_is_offered_where_a_book_that_is_gone_was_saved(
     desk: Desk, stays: list[str]
 ) -> None:

@@ -345,6 +345,8 @@ class Desk:
     def show_done(self, done: Done) -> None:
         """Shows what was kept, and only now says so."""
         self.show(done.contents, done.paragraph)
+        # what was typed and taken away before that is taken back no more
+        self.window.print.have_kept()
         said = done.said[:1].upper() + done.said[1:]
         self.say(said if said.endswith(".") else f"{said}.")
 
