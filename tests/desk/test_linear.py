@@ -23,6 +23,7 @@ from braildesk.desk.documents import contents
 from braildesk.desk.documents.contents import contents_of, missing
 from braildesk.desk.documents.kinds import ManuscriptKind, NoDocument, WhyNot
 from braildesk.desk.documents.numbers import with_numbers
+from braildesk.desk.documents.numbers_of_odt import with_odt_numbers
 from braildesk.desk.documents.pages import readable_page
 from braildesk.desk.documents.reading import Missing
 from braildesk.desk.find import Hit
@@ -40,7 +41,7 @@ from braildesk.text.spans import find_spans
 from braildesk.text.wrapping import wrap
 from scribe.words.find import word_lines
 
-from handmade import docx, paragraph, run
+from handmade import docx, odt, paragraph, run
 
 # of a processor: far more than what is wanted takes on a busy machine, and far less than its square
 SECONDS = 20
@@ -88,6 +89,22 @@ def test_the_cells_of_tables_within_each_other_are_counted_once(tmp_path: Path) 
     with ZipFile(BytesIO(made)) as container:
         tables = container.read("word/document.xml").decode().split("<w:tblGrid>")
     assert [table.count("<w:gridCol") for table in tables] == [0, *[1] * 60, 1_000]
+
+
+def test_of_italics_that_stand_within_each_other_the_front_is_read(
+    tmp_path: Path,
+) -> None:
+    slanted = '<style:text-properties fo:font-style="italic"/>'
+    style = (
+        f'<style:style style:name="s" style:family="paragraph">{slanted}</style:style>'
+    )
+    front = '<text:p text:style-name="s">moon<text:note>' * 90
+    text = f"{front}<text:p>{'moon ' * 800_000}</text:p>{'</text:note></text:p>' * 90}"
+    data = odt(tmp_path / "moon.odt", text, style).read_bytes()
+    started = time.process_time()
+    _, losses = with_odt_numbers(data, "*", "[]")
+    assert time.process_time() - started < SECONDS
+    assert [len(each.words) for each in losses] == [60] * 90
 
 
 def test_elements_that_stand_within_each_other_without_end_are_refused(

@@ -6,6 +6,7 @@ are based on each other, or on one that isn't there, and none of whole paragraph
 
 from collections.abc import Iterator
 from copy import deepcopy
+from itertools import islice
 from xml.etree import ElementTree
 from xml.etree.ElementTree import Element, SubElement
 
@@ -19,8 +20,8 @@ _OFFICE = "{urn:oasis:names:tc:opendocument:xmlns:office:1.0}"
 _GONE = (f"{_TEXT}tracked-changes", f"{_OFFICE}annotation")
 _PARENT, _PROPERTIES = f"{_STYLE}parent-style-name", f"{_STYLE}text-properties"
 _SLOPE, _ITALIC = f"{_FO}font-style", ("italic", "oblique")
-#: How many characters are shown of a paragraph.
-_SHOWN = 60
+#: How many characters are shown of a paragraph, and how many of its texts are looked at for them.
+_SHOWN, _FRONT = 60, 1_000
 #: What words that are emphasized, or stand above or below the line, have by their style.
 _EMPHASIS = (
     *(f"{_FO}{name}" for name in ("font-style", "font-weight", "font-variant")),
@@ -36,9 +37,12 @@ def italics(root: Element, *others: Element) -> Iterator[Loss]:
         id(each) for tag in _GONE for part in root.iter(tag) for each in part.iter()
     }
     for paragraph in root.iter(f"{_TEXT}p"):
-        words = plain("".join(paragraph.itertext()).replace("\n", " "))[:_SHOWN]
         emphasis = styles.emphasis(paragraph.get(f"{_TEXT}style-name", ""))
-        if words and id(paragraph) not in gone and emphasis.get(_SLOPE) in _ITALIC:
+        if id(paragraph) in gone or emphasis.get(_SLOPE) not in _ITALIC:
+            continue
+        # a note in it has paragraphs, which may have notes
+        front = islice((each[:_FRONT] for each in paragraph.itertext()), _FRONT)
+        if words := plain("".join(front).replace("\n", " "))[:_SHOWN]:
             yield Loss(LossKind.EMPHASIS, words, words)
 
 
