@@ -12,13 +12,14 @@ from braildesk.opening import (
     has_journal,
     has_page,
     has_work,
+    is_used,
     take_alone,
     take_shared,
     why_no_log,
 )
 from braildesk.protocol.asked import BookFile, log_path, real_path
 from braildesk.protocol.sentences import Why
-from braildesk.refusals import Refused, cannot_open
+from braildesk.refusals import CannotOpen, Refused, cannot_open
 from braildesk.text import limits
 from braildesk.workshop import (
     access_list,
@@ -86,22 +87,32 @@ def fit_log(book: BookFile) -> None:
     with suppress(OSError, ValueError), _folder(path.parent) as folder:
         # both lie in one folder, whatever is put in its place meanwhile
         with _alone(folder, path.name) as file:
-            _remove_open(book, folder, name, file)
+            _remove_unfit(book, folder, name, file)
             _begin_log(folder, name, file)
             with _alone(folder, name) as log:
                 if has_more_writers(log, file):
-                    raise cannot_open(book, Why.LOG_OPEN)
+                    raise _not_taken(book.path, file)
                 _give_mode(log, file)
 
 
-def _remove_open(book: BookFile, folder: int, name: str, file: BinaryIO) -> None:
-    """Removes a log that has no work and may be written by people who may not write the book."""
-    with suppress(FileNotFoundError), _alone(folder, name) as log:
-        if has_more_writers(log, file):
+def _remove_unfit(book: BookFile, folder: int, name: str, file: BinaryIO) -> None:
+    """Removes a log without work that this user may not use, or others may write who may not write the book."""
+    with suppress(FileNotFoundError):
+        found = os.stat(name, dir_fd=folder, follow_symlinks=False)
+        _refuse_other(found)
+        if not has_page(found.st_size) and _is_unfit(folder, name, file):
             # while a session has the book, it is using the log
             with suppress(OSError, Refused), held(book, os.O_RDWR):
-                if not has_page(os.fstat(log.fileno()).st_size):
+                found = os.stat(name, dir_fd=folder, follow_symlinks=False)
+                if not has_page(found.st_size):
                     os.unlink(name, dir_fd=folder)
+
+
+def _is_unfit(folder: int, name: str, file: BinaryIO) -> bool:
+    if not os.access(name, os.R_OK | os.W_OK, dir_fd=folder):
+        return True
+    with _alone(folder, name) as log:
+        return has_more_writers(log, file)
 
 
 def _begin_log(folder: int, name: str, file: BinaryIO) -> None:
@@ -179,7 +190,16 @@ def copy_held(source: BinaryIO, log: str, made: Path) -> os.stat_result:
         flags = os.O_RDONLY | os.O_NOFOLLOW | os.O_NONBLOCK | os.O_CLOEXEC
         with open(os.open(log, flags), "rb") as work:
             if has_more_writers(work, source):
-                raise cannot_open(BookFile(log.removesuffix("-wal")), Why.LOG_OPEN)
+                raise _not_taken(log.removesuffix("-wal"), source)
             with create(Path(f"{made}-wal")) as written:
                 copy_bytes(work.fileno(), written.fileno())
     return found
+
+
+def _not_taken(path: str, source: BinaryIO) -> CannotOpen:
+    """That nothing is taken from a log which people may write who may not write its book."""
+    if is_used(source):
+        # a log that was put in the place of this one would end the session
+        return cannot_open(BookFile(path), Why.IN_USE)
+    why = Why.LOG_OPEN if os.access(path, os.W_OK) else Why.LOG_OPEN_TO_READ
+    return cannot_open(BookFile(path), why)

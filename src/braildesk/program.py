@@ -50,6 +50,8 @@ _CHECKOUT = Path(__file__).resolve().parents[2]
 _PAUSE = 0.2
 #: What the program isn't asked of at all.
 _NOT_A_BOOK = (Why.COMPUTED, Why.TOO_LONG)
+#: Why a book isn't opened whose log can't be judged, or is to be judged once nobody else has the book.
+_NOT_ASKED = (Why.LOG_OPEN, Why.LOG_OPEN_TO_READ, Why.IN_USE)
 _CODE = re.compile(r"(?:braildesk: )?no ([0-9 ]+)")
 #: What it answers of a whole book.
 _CHECKED = re.compile(rb"ok ([0-9]+)\n")
@@ -242,7 +244,7 @@ def judge(asked: AskedOfFile, program: str) -> None:
         if fault is None:
             fit_log(BookFile(asked.path))
     except CannotOpen as refusal:
-        fault = refusal.why if refusal.why is Why.LOG_OPEN else None
+        fault = refusal.why if refusal.why in _NOT_ASKED else None
     except (OSError, ValueError, Refused):
         return
     if fault is not None:

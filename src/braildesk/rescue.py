@@ -23,6 +23,7 @@ _UNTOLD = frozenset(
         Why.DENIED,
         Why.LOG_DENIED,
         Why.LOG_OPEN,
+        Why.LOG_OPEN_TO_READ,
         Why.READ_ONLY,
         Why.NO_ROOM,
         Why.OVER_QUOTA,

@@ -941,6 +941,27 @@ def test_a_log_that_may_be_written_by_people_who_may_not_write_the_book_is_not_t
             look()
         assert caught.value.why is Why.LOG_OPEN
     assert (book.read_bytes(), log.read_bytes()) == (before, others)
+    # who may only read the book can't take it for those who may write it
+    answers = tmp_path / "answers"
+    answers.touch()
+    answers.chmod(0o666)
+
+    def ask() -> None:
+        try:
+            snapshot(book).__enter__()
+        except CannotOpen as refusal:
+            answers.write_text(refusal.sentence)
+
+    assert as_stranger(ask) == ""
+    assert answers.read_text().endswith(
+        f" Nothing was changed. Ask somebody who may write “{book}” to open it."
+    )
+    # and one that a session is using isn't taken from it
+    with open(book, "rb") as used:
+        assert opening.take_shared(used)
+        with pytest.raises(CannotOpen) as caught:
+            snapshot(book).__enter__()
+    assert caught.value.why is Why.IN_USE
     log.write_bytes(work)
     subprocess.run(takes, shell=True, check=True)
     with Session(book) as session:
@@ -1004,6 +1025,22 @@ def test_a_log_that_a_colleague_began_may_be_written_by_who_owns_the_book(
     assert log.stat().st_uid == STRANGER
     assert as_stranger(lambda: log.open("r+b").close(), STRANGER - 1) == ""
     assert as_stranger(lambda: log.open("r+b").close(), STRANGER - 2) != ""
+
+
+@NEEDS_ROOT
+def test_a_log_without_work_is_made_anew_where_the_book_may_be_used_again(
+    book: Path, tmp_path: Path
+) -> None:
+    lead_to(tmp_path)
+    os.chown(tmp_path, -1, STRANGER)
+    tmp_path.chmod(0o2775)
+    os.chown(book, -1, STRANGER)
+    for mode in (0o640, 0o600):
+        book.chmod(mode)
+        Session(book).close()
+        book.chmod(0o664)
+        assert as_stranger(lambda: Session(book).close()) == ""
+    assert stat.S_IMODE(Path(f"{book}-wal").stat().st_mode) == 0o664
 
 
 @NEEDS_ROOT

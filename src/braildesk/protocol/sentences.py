@@ -22,6 +22,7 @@ class Why(StrEnum):
     DENIED = "not permitted"
     LOG_DENIED = "log not permitted"
     LOG_OPEN = "log open to others"
+    LOG_OPEN_TO_READ = "log open to others than this reader"
     NO_DATABASE = "no database"
     READ_ONLY = "read-only"
     NO_ROOM = "no room"
@@ -160,6 +161,9 @@ UNOPENED = MappingProxyType(
         " who may not write the book, as after a change of its permissions. They may have put"
         " something else there. {nothing} If you know that the work is yours, take it by this command,"
         " and open the book again: {take_log}. If you don't, move {log} away, and go on without it.",
+        Why.LOG_OPEN_TO_READ: "{log}, in which the newest work of {path} is looked for, may be written by"
+        " people who may not write the book, as after a change of its permissions. They may have put"
+        " something else there. {nothing} Ask somebody who may write {path} to open it.",
         Why.READ_ONLY: "{path} is on a disk that can only be read, and a book is opened where it can"
         " be written. {nothing} Copy the book to another disk.",
         Why.NO_ROOM: "There is no room on the disk of {path}. {nothing} Make room there,"
