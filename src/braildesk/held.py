@@ -188,9 +188,14 @@ def copy_held(source: BinaryIO, log: str, made: Path) -> os.stat_result:
     if has_work(log):
         # whatever was put in its place in this moment, nothing is waited for
         flags = os.O_RDONLY | os.O_NOFOLLOW | os.O_NONBLOCK | os.O_CLOEXEC
-        with open(os.open(log, flags), "rb") as work:
+        path = log.removesuffix("-wal")
+        try:
+            work = open(os.open(log, flags), "rb")
+        except PermissionError:
+            raise cannot_open(BookFile(path), Why.LOG_DENIED) from None
+        with work:
             if has_more_writers(work, source):
-                raise _not_taken(log.removesuffix("-wal"), source)
+                raise _not_taken(path, source)
             with create(Path(f"{made}-wal")) as written:
                 copy_bytes(work.fileno(), written.fileno())
     return found

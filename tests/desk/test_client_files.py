@@ -973,8 +973,14 @@ def test_a_log_that_may_be_written_by_people_who_may_not_write_the_book_is_not_t
 def test_a_log_of_somebody_who_may_not_write_the_book_is_not_taken(
     book: Path, tmp_path: Path
 ) -> None:
-    log = Path(f"{book}-wal")
+    lead_to(tmp_path)
+    log, own = Path(f"{book}-wal"), tmp_path / "own"
+    own.mkdir()
+    os.chown(own, STRANGER, STRANGER)
     killed_after(book, "of a colleague")
+    # it isn't that the copy can't be written
+    log.chmod(0o600)
+    assert as_stranger(lambda: braildesk.copy(book, own / "copy")) == "CannotOpen"
     os.chown(log, STRANGER, STRANGER)
     with pytest.raises(CannotOpen) as caught:
         Session(book)
