@@ -137,7 +137,7 @@ def test_a_table_is_written_to_a_file(tmp_path: Path) -> None:
 def test_a_table_is_shown_without_a_file(tmp_path: Path) -> None:
     ran = scribe("bring", small(tmp_path), folder=tmp_path)
     assert ran.status == 0
-    assert ran.shown.endswith("punctuation - 36\n")
+    assert "punctuation - 36\n# The sum of these lines" in ran.shown
 
 
 def test_a_table_on_which_too_few_lines_agree_is_not_written(tmp_path: Path) -> None:
@@ -196,7 +196,7 @@ def test_a_table_replaces_one_that_was_brought_and_no_other_file_unless_that_is_
     small(tmp_path)
     (tmp_path / "out.utb").write_text("# My own table.\nletter a 1\n")
     assert refused(tmp_path, "small.utb", "out.utb") == (
-        "out.utb is there already and is no table that scribe bring wrote, so it was left as it is;"
+        "out.utb is there already and is no table as scribe bring wrote it, so it was left as it is;"
         " --overwrite replaces it."
     )
     assert (tmp_path / "out.utb").read_text() == "# My own table.\nletter a 1\n"
@@ -210,6 +210,13 @@ def test_a_table_replaces_one_that_was_brought_and_no_other_file_unless_that_is_
         ran = scribe("bring", *words.split(), folder=tmp_path)
         assert (ran.status, ran.shown) == (0, "")
         assert "out.utb was written, " in ran.said
+    # a line that somebody added by hand is in no other file
+    its = (tmp_path / "out.utb").read_text() + "always moon 134\n"
+    (tmp_path / "out.utb").write_text(its)
+    assert "no table as scribe bring wrote it" in refused(
+        tmp_path, "small.utb", "out.utb"
+    )
+    assert (tmp_path / "out.utb").read_text() == its
 
 
 @pytest.mark.parametrize("name", ["a.utb", "a-table-with-a-long-name.utb"])
@@ -222,9 +229,10 @@ def test_a_table_that_was_brought_is_known_by_its_first_comment(
     with Liblouis(path) as liblouis:
         said = report.origin(read_subject(read_source(path), liblouis))
     lines = [line for one in said for line in comment_lines(one)]
-    text = "\n".join(lines).encode()
+    text = report.with_sum("\n".join([*lines, "letter a 1\n"])).encode()
     assert report.is_brought(text)
     assert not report.is_brought(text.replace(b"brought", b"taken"))
+    assert not report.is_brought(text.replace(b"a 1", b"a 2"))
     assert not report.is_brought(b"# Mine.\n" + text)
 
 

@@ -23,8 +23,8 @@ _BESIDE = re.compile(r"\.scribe-[0-9a-f]{16}")
 _ANOTHER = (errno.ENOENT, errno.ELOOP, errno.ENXIO)
 # what a writer that was killed left is taken away after this time
 _LEFT_SECONDS = 3_600
-#: How many bytes at the front of a file say what it is.
-_HEAD_BYTES = 4_096
+#: How many bytes at the front of a file say what it is: more than a table has.
+_HEAD_BYTES = 2**24
 #: Whether a file with these bytes at its front may be replaced.
 Replaces = Callable[[bytes], bool]
 

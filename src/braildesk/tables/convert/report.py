@@ -5,6 +5,7 @@ from __future__ import annotations
 from collections.abc import Iterable, Iterator, Sequence
 from itertools import groupby
 from typing import Final
+from zlib import crc32
 
 from braildesk.tables.convert.addition import Addition
 from braildesk.tables.convert.comparison import Comparison, Difference
@@ -38,16 +39,26 @@ _NO_BRAILLE: Final = (
 
 
 _BROUGHT: Final = "brought over to the profile of braildesk by scribe bring."
+_SUMMED: Final = "# The sum of these lines, as scribe bring wrote them, is "
+_HEAD_BYTES: Final = 4_096
 
 
-def is_brought(head: bytes) -> bool:
-    """Whether a text that begins so was made by `scribe bring`, as its first comment says."""
+def with_sum(text: str) -> str:
+    """The text of a table with a last comment, by which it is known that nobody changed it."""
+    return f"{text}{_SUMMED}{crc32(text.encode()):08x}.\n"
+
+
+def is_brought(text: bytes) -> bool:
+    """Whether a text is as `scribe bring` wrote it, by its first comment and its last one."""
     sentence = ""
-    for line in head.decode(errors="replace").splitlines():
+    for line in text[:_HEAD_BYTES].decode(errors="replace").splitlines():
         if not line.startswith("#") or sentence and not line.startswith("#  "):
             break
         sentence += f" {line[1:].strip()}"
-    return " of liblouis " in sentence and sentence.endswith(f", {_BROUGHT}")
+    if " of liblouis " not in sentence or not sentence.endswith(f", {_BROUGHT}"):
+        return False
+    table, found, _ = text.rpartition(_SUMMED.encode())
+    return bool(found) and text == with_sum(table.decode(errors="replace")).encode()
 
 
 def origin(subject: Subject) -> list[str]:

@@ -43,7 +43,7 @@ With --for MANUSCRIPT rules are learned besides, by asking liblouis, from a list
 and from the words of a text, a document or a book, so that a contracted table writes it
 as liblouis does. What differs still is said with its causes: such a table is to be proofread.
 docs/contracted.md makes a book so.
-A FILE that bring wrote before or that is empty is replaced, and any other only with
+A FILE that is as bring wrote it or that is empty is replaced, and any other only with
 --overwrite."""
 EXAMPLE = """\
 scribe bring --list
@@ -99,7 +99,7 @@ def add_parser(subparsers: Subparsers) -> ArgumentParser:
     parser.add_argument(
         "--overwrite",
         action="store_true",
-        help="replace a FILE that bring didn't write, unless it is a book",
+        help="replace a FILE that isn't as bring wrote it, unless it is a book",
     )
     return parser
 
@@ -153,7 +153,7 @@ def run(arguments: Namespace, console: Console) -> Status:
     console.say(*said_of(brought))
     if not brought.is_good and not arguments.anyway:
         raise Stop(_why_not(brought))
-    return _written(brought.text, arguments, console)
+    return _written(report.with_sum(brought.text), arguments, console)
 
 
 def _judge_file(table: Path, arguments: Namespace) -> None:
@@ -173,7 +173,7 @@ def _judge_file(table: Path, arguments: Namespace) -> None:
 
 
 def _not_replaced(file: Path, there: AnotherIsThere) -> Stop:
-    return Stop(left_there(file, there, "table that scribe bring wrote"))
+    return Stop(left_there(file, there, "table as scribe bring wrote it"))
 
 
 def _for_manuscript(table: Path, arguments: Namespace, console: Console) -> Status:
