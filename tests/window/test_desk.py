@@ -25,6 +25,7 @@ from braildesk.text.spans import Span
 from scribe.window import dialogs
 from scribe.window.book import Contents, OpenBook
 from scribe.window.desk import Desk
+from scribe.window.held import Held
 from scribe.window.worker import Worker
 from scribe.words.console import Console
 from scribe.words.import_text import import_in_words
@@ -293,7 +294,7 @@ def test_what_is_done_just_as_its_waiting_ends_is_no_failure(
             return found
 
     monkeypatch.setattr("scribe.window.worker.Future", Late)
-    worker = Worker()
+    worker = Worker(Held())
     assert worker.result(lambda: 1) == 1
     worker.stop()
 

@@ -93,7 +93,7 @@ def test_a_session_that_was_killed_is_opened_again_and_the_text_stays(
     window.caret("Print", 8)
     window.type("s")
     _waits(window, moon, "The Moons")
-    os.kill(_session_of(window), signal.SIGKILL)
+    os.kill(session_of(window), signal.SIGKILL)
     window.focus("text", "Message")
     window.reads(
         "Message",
@@ -189,7 +189,7 @@ def test_a_window_is_ended_also_while_the_program_does_not_answer(
     if typed:
         window.type(typed)
         _waits(window, moon, f"The Moon{typed}")
-    os.kill(_session_of(window), signal.SIGSTOP)
+    os.kill(session_of(window), signal.SIGSTOP)
     if key:
         window.press(key)
         window.reads("Message", message)
@@ -216,7 +216,7 @@ def test_a_window_is_ended_also_while_the_book_is_being_opened(
     )
     program.chmod(0o755)
     window = at(moon, is_waited_for=False, BRAILDESK=str(program))
-    _session_of(window)
+    session_of(window)
     window.program.send_signal(signal.SIGTERM)
     shown, said = window.program.communicate(timeout=120)
     assert " ".join(said.decode().split()) == (
@@ -226,7 +226,7 @@ def test_a_window_is_ended_also_while_the_book_is_being_opened(
     assert (window.program.returncode, shown) == (-signal.SIGTERM, b"")
 
 
-def _session_of(window: Reader) -> int:
+def session_of(window: Reader) -> int:
     """The number of the process of the session of a window."""
     task = Path(f"/proc/{window.program.pid}/task")
 

@@ -21,6 +21,7 @@ from scribe.window import dialogs
 from scribe.window.menus import MENUS
 from scribe.window.paragraphs import WORDS
 from scribe.window.window import Window
+from scribe.window.held import Held
 from scribe.window.worker import Worker
 
 from conftest import wait
@@ -103,7 +104,7 @@ def test_the_names_of_the_columns_are_whole(window: Window) -> None:
 
 
 def _progress(over: QWidget) -> None:
-    worker, ended = Worker(), Event()
+    worker, ended = Worker(Held()), Event()
 
     def act(say: dialogs.Say, is_stopped: dialogs.IsStopped) -> None:
         say(f"1,000 of 3,000 paragraphs are laid out. {QUOTED} {QUOTED}")

@@ -26,7 +26,7 @@ from braildesk import (
     requests,
 )
 from braildesk.desk.correction import place_kept, with_typed
-from braildesk.desk.draft import Aim, Draft
+from braildesk.desk.draft import Aim, Draft, Unread
 from braildesk.desk.drafts import Drafts, LeftAt, NotKept
 from braildesk.desk.highlighting import Highlighted
 from braildesk.desk.layout import PageSize
@@ -47,12 +47,13 @@ from scribe.window.book import (
 )
 from scribe.window.dialogs import choice
 from scribe.window.fields import LINE_END
+from scribe.window.held import Held
 from scribe.window.menus import MENUS
 from scribe.window.window import Window
 from scribe.window.worker import Worker
 from scribe.words import pagelook
 from scribe.words.console import WAITING
-from scribe.words.drafts import Unsent, changed_since, not_kept, what_for
+from scribe.words.drafts import Unsent, came_last, changed_since, not_kept, what_for
 from scribe.words.paragraph import mark_line, title
 from scribe.words.preview import Preview
 from scribe.words.status import Interrupted, Stop, in_sentences
@@ -69,6 +70,8 @@ _ONLY_HERE = (
 )
 _WAITS = "What was typed and isn't in the book is kept, and is offered when it is next opened."
 _UNKEPT = "This was typed, and could not be kept:"
+# so many letters are no text where letters are keys
+_FEW = 3
 
 
 @dataclass(frozen=True)
@@ -89,7 +92,8 @@ class Desk:
         self.path = path
         self.page_size = page_size
         #: The threads of the session, of the texts that wait, and of what is translated ahead.
-        self.work, self.aside, self.ahead = Worker(), Worker(), Worker()
+        self.held = Held()
+        self.work, self.aside, self.ahead = (Worker(self.held) for _ in range(3))
         self.book = OpenBook(path, by, wait, self._look_at_end)
         self.drafts = Drafts(path)
         self.unsent = Unsent(self.drafts)
@@ -129,6 +133,8 @@ class Desk:
 
     def _connect(self) -> None:
         self.work.waits.connect(self._say_waiting)
+        self.held.changed.connect(self._keep_held)
+        self.held.unanswered.connect(self._put_by_held)
         chosen = self.window.table.selectionModel()
         assert chosen is not None
         window = self.window
@@ -699,15 +705,54 @@ class Desk:
 
     def waits_at_once(self) -> str:
         """Keeps what is typed as what waits, once nothing can be shown, and says so if anything is."""
-        draft = self.draft()
+        draft, held = self.draft(), self._text_held()
         self.keep_draft(draft)
         # nothing more is done beside the window, which isn't drawn while that is waited for
         self.aside.stop()
-        if draft is None:
-            return ""
-        if self.unsent.waiting == draft:
-            return _WAITS
-        return f"{_UNKEPT} {visible(draft.text)}"
+        unkept = []
+        if draft is not None and self.unsent.waiting != draft:
+            unkept.append(draft.text)
+        try:
+            self.unsent.keep_unread(held)
+        except NotKept:
+            unkept.append(held.text_of_all if held is not None else "")
+        if unkept:
+            return f"{_UNKEPT} {visible(' '.join(unkept))}"
+        return _WAITS if draft is not None or held is not None else ""
+
+    def _text_held(self) -> Unread | None:
+        """The text that was typed while the window waits: lines after a new paragraph, or one by itself."""
+        text, field = self.held.text.strip(), self.window.print
+        is_in_print = self.window.focusWidget() is field and not field.isReadOnly()
+        if not text or not is_in_print and len(text) <= _FEW:
+            return None
+        draft, table = self.draft(), self.table_of_typed()
+        is_new = draft is not None and draft.aim.is_new and self.beside is None
+        lines, text = (text, "") if is_new else ("", text)
+        aside = Draft(Aim.AFTER, self.number, table, "", text)
+        return Unread(lines, replace(aside, version=self.contents.version))
+
+    def _keep_held(self) -> None:
+        """Keeps the text that is typed while the window waits, until it is in its place."""
+        held = self._text_held()
+
+        def look(found: "Future[None]") -> None:
+            try:
+                found.result()
+            except NotKept as fault:
+                self._say_besides(not_kept(fault))
+
+        self.aside.latest("held", lambda: self.unsent.keep_unread(held), look)
+
+    def _put_by_held(self) -> None:
+        """Gives up a text that was typed before a dialog opened, which it doesn't answer."""
+        held = self._text_held()
+        if held is None:
+            return
+        text = held.text_of_all
+        draft = replace(held.rest, text=text)
+        fault = self.aside.result(lambda: self.unsent.put_by(draft), False)
+        self.say(f"{came_last(text)} {fault or 'Ctrl+B brings it back.'}")
 
     def wait_for_draft(self) -> None:
         """Waits until what is typed is kept as what waits."""

@@ -7,7 +7,7 @@ from contextlib import contextmanager
 from pathlib import Path
 from typing import TypeVar
 
-from PyQt6.QtCore import QEventLoop, QSize, Qt, QTimer
+from PyQt6.QtCore import QSize, Qt, QTimer
 from PyQt6.QtGui import QFont, QKeyEvent
 from PyQt6.QtWidgets import (
     QCheckBox,
@@ -25,7 +25,7 @@ from PyQt6.QtWidgets import (
     QWidget,
 )
 
-from scribe.window.fields import Field, lines_of
+from scribe.window.fields import ENTER, Field, lines_of
 from scribe.window.worker import Worker
 
 Result = TypeVar("Result")
@@ -355,10 +355,7 @@ class _Cancel(QPushButton):
 
     def keyPressEvent(self, event: QKeyEvent | None) -> None:
         """Presses it by any other key that does so."""
-        if event is not None and event.key() not in (
-            Qt.Key.Key_Return,
-            Qt.Key.Key_Enter,
-        ):
+        if event is not None and event.key() not in ENTER:
             super().keyPressEvent(event)
 
 
@@ -417,16 +414,13 @@ def long(
     timer.timeout.connect(dialog.tell)
     timer.start(_PACE_MILLISECONDS)
     worker.post(lambda: act(say, lambda: dialog.is_stopped), ended)
-    flags, loop = QEventLoop.ProcessEventsFlag, QEventLoop()
     shown_at = time.monotonic() + _SHOWN_AFTER_SECONDS
-    while not found and time.monotonic() < shown_at:
-        loop.processEvents(flags.ExcludeUserInputEvents | flags.WaitForMoreEvents)
+    worker.wait_until(lambda: bool(found) or time.monotonic() >= shown_at)
     with _back_to(over, dialog):
         if not found:
             dialog.exec()
-        while not found:
-            # the window is being ended, and the work is in the middle of a step
-            dialog.is_stopped = True
-            loop.processEvents(flags.ExcludeUserInputEvents | flags.WaitForMoreEvents)
+        # if it isn't found the window is being ended, and the work is in the middle of a step
+        dialog.is_stopped = True
+        worker.wait_until(lambda: bool(found))
     timer.stop()
     return found[0].result()

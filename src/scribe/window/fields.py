@@ -35,6 +35,8 @@ AROUND = FRAME_WITH_FOCUS + 5
 # so many lines of a text are seen at least, in any font
 _LEAST_LINES = 2
 _BEYOND = "\U00010000"
+#: The keys of Enter.
+ENTER = Qt.Key.Key_Return, Qt.Key.Key_Enter
 #: What Qt puts where a line of a text ends.
 LINE_END = "\u2029"
 _LINE_END = re.compile(f"\r\n|[\r\n{LINE_END}]")
@@ -201,12 +203,12 @@ class Field(QPlainTextEdit):
         if event is None:
             return
         key = event.key()
-        if key in (Qt.Key.Key_Return, Qt.Key.Key_Enter):
+        if key in ENTER:
             self.entered.emit()
         elif key == Qt.Key.Key_Escape:
             self.left.emit()
         else:
-            if self.isReadOnly() and _is_letter(event):
+            if self.isReadOnly() and is_letter(event):
                 self.typed_on.emit(event.text())
             super().keyPressEvent(event)
 
@@ -350,7 +352,7 @@ class Cells(Field):
             super().keyPressEvent(event)
 
 
-def _is_letter(event: QKeyEvent) -> bool:
+def is_letter(event: QKeyEvent) -> bool:
     """Whether a key types something, and isn't one of the desk's."""
     keys = Qt.KeyboardModifier
     held = keys.ControlModifier | keys.AltModifier | keys.MetaModifier

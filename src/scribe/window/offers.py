@@ -36,8 +36,8 @@ class Offers:
         """Asks about a text that waits from before, and about imports that were cut short."""
         desk = self.desk
         try:
-            desk.aside.result(desk.drafts.take_in)
-            desk.aside.result(desk.unsent.read)
+            # at once, before anything is kept of what is pressed meanwhile
+            desk.aside.result(self._read)
         except NotKept as fault:
             desk.say(not_kept(fault))
         if desk.unsent.came_last:
@@ -68,6 +68,11 @@ class Offers:
                     desk.say(not_seen(each))
                 case NotKept():
                     desk.say(not_kept(each))
+
+    def _read(self) -> None:
+        """Reads what waits from before."""
+        self.desk.drafts.take_in()
+        self.desk.unsent.read()
 
     def _offer_text(self, waiting: Draft) -> None:
         desk = self.desk

@@ -10,6 +10,8 @@ from typing import Any, TypeVar, cast
 
 from PyQt6.QtCore import QEventLoop, QObject, QTimer, pyqtSignal
 
+from scribe.window.held import Held
+
 Result = TypeVar("Result")
 # how long the window waits without even being drawn
 _MOMENT_SECONDS = 0.05
@@ -47,8 +49,9 @@ class Worker(QObject):
     waits = pyqtSignal(bool)
     _done = pyqtSignal(object)
 
-    def __init__(self) -> None:
+    def __init__(self, held: Held) -> None:
         super().__init__()
+        self._held = held
         self._jobs: deque[_Job] = deque()
         self._changed = Condition()
         self._is_over = False
@@ -59,7 +62,7 @@ class Worker(QObject):
     def result(self, act: Callable[[], Result], is_first: bool = True) -> Result:
         """What comes of something that is done before all that waits, or after it.
 
-        The window waits for it. Meanwhile it is drawn, but keys and the mouse wait.
+        The window waits for it. Meanwhile it is drawn, and what is pressed is held.
         """
         job = _Job(act, lambda future: None)
         self._put(job, is_first)
@@ -70,16 +73,21 @@ class Worker(QObject):
         return cast(Result, job.future.result())
 
     def _wait_for(self, job: _Job) -> None:
-        loop, long = QEventLoop(), QTimer()
-        flags = QEventLoop.ProcessEventsFlag
+        long = QTimer()
         long.setSingleShot(True)
         long.timeout.connect(lambda: self.waits.emit(True))
         long.start(_LONG_MILLISECONDS)
-        while not job.future.done():
-            loop.processEvents(flags.ExcludeUserInputEvents | flags.WaitForMoreEvents)
+        self.wait_until(job.future.done)
         if not long.isActive():
             self.waits.emit(False)
         long.stop()
+
+    def wait_until(self, is_over: Callable[[], bool]) -> None:
+        """Waits for something, and holds what is pressed meanwhile."""
+        loop, flags = QEventLoop(), QEventLoop.ProcessEventsFlag
+        with self._held.holding():
+            while not is_over():
+                loop.processEvents(flags.WaitForMoreEvents)
 
     def post(
         self, act: Callable[[], Result], then: Callable[["Future[Result]"], None]

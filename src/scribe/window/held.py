@@ -1,0 +1,134 @@
+"""What is pressed while the window waits: it is held in its order, and does after it what it is for."""
+
+from collections import deque
+from collections.abc import Iterator
+from contextlib import contextmanager
+
+from PyQt6.QtCore import QCoreApplication, QEvent, QObject, Qt, QTimer, pyqtSignal
+from PyQt6.QtGui import QGuiApplication, QInputMethodEvent, QKeyEvent, QWindow
+from PyQt6.QtWidgets import QApplication, QWidget
+from PyQt6.sip import isdeleted
+
+from scribe.window.fields import ENTER, is_letter
+
+_KINDS = QEvent.Type
+# what comes to a window by hands
+_BY_HANDS = frozenset(
+    (
+        *(_KINDS.KeyPress, _KINDS.KeyRelease, _KINDS.Close, _KINDS.Wheel),
+        *(_KINDS.MouseButtonPress, _KINDS.MouseButtonRelease, _KINDS.MouseMove),
+        *(_KINDS.MouseButtonDblClick, _KINDS.TouchBegin, _KINDS.TouchUpdate),
+        *(_KINDS.TouchEnd, _KINDS.TouchCancel, _KINDS.ContextMenu),
+    )
+)
+# what Qt makes of keys before they come to a window
+_OF_KEYS = frozenset((_KINDS.Shortcut, _KINDS.InputMethod))
+_OF_TEXT = frozenset((_KINDS.KeyPress, _KINDS.InputMethod))
+
+
+class Held(QObject):
+    """What is pressed while the window waits, until it can be obeyed.
+
+    Qt would hold it by itself, where nobody sees it and a kill takes it along.
+    """
+
+    #: Something came that may be text; or nothing is held any more.
+    changed = pyqtSignal()
+    #: A dialog was opened, to which nothing of this is an answer: it isn't obeyed.
+    unanswered = pyqtSignal()
+
+    def __init__(self) -> None:
+        super().__init__()
+        # each with the dialog over the window as it came
+        self._events: deque[tuple[QWidget | None, QObject, QEvent]] = deque()
+        self._waits = 0
+        # the dialog over the window as the wait began
+        self._over: QWidget | None = None
+        self._obeyed: QEvent | None = None
+        self._soon = QTimer(self)
+        self._soon.setSingleShot(True)
+        self._soon.timeout.connect(self._obey)
+        application = QCoreApplication.instance()
+        assert application is not None
+        # before a screen reader's, which hears of keys as they are pressed
+        application.installEventFilter(self)
+
+    @contextmanager
+    def holding(self) -> Iterator[None]:
+        """Holds what is pressed for as long as something is waited for."""
+        before, self._over = self._over, QApplication.activeModalWidget()
+        self._waits += 1
+        if self._events:
+            # what was obeyed by now isn't held any more
+            self.changed.emit()
+        try:
+            yield
+        finally:
+            self._waits -= 1
+            self._over = before
+            self._soon.start()
+
+    @property
+    def text(self) -> str:
+        """The text that is held, in lines."""
+        typed: list[str] = []
+        for _, _, event in self._events:
+            if isinstance(event, QInputMethodEvent):
+                typed += event.commitString()
+            elif not isinstance(event, QKeyEvent) or event.type() != _KINDS.KeyPress:
+                continue
+            elif event.key() in ENTER:
+                typed.append("\n")
+            elif is_letter(event):
+                typed += event.text()
+            elif event.key() == Qt.Key.Key_Backspace and typed:
+                typed.pop()
+        return "".join(typed)
+
+    def eventFilter(self, to: QObject | None, event: QEvent | None) -> bool:
+        """Takes what hands do while something is waited for, and what they did after that."""
+        if not (self._waits or self._events) or to is None or event is None:
+            return False
+        over, kind = QApplication.activeModalWidget(), event.type()
+        # a dialog that opens while something is waited for can be answered
+        is_answer = bool(self._waits) and over is not self._over
+        if is_answer or event is self._obeyed or not self._is_by_hands(to, kind):
+            return False
+        copy = event.clone()
+        assert copy is not None
+        # of a mouse that moves on it is enough where it is in the end
+        moves = kind == _KINDS.MouseMove and bool(self._events)
+        if moves and self._events[-1][2].type() == kind:
+            self._events.pop()
+        self._events.append((over, to, copy))
+        event.setAccepted(kind != _KINDS.Close)
+        if kind in _OF_TEXT:
+            self.changed.emit()
+        return True
+
+    def _is_by_hands(self, to: QObject, kind: QEvent.Type) -> bool:
+        """Whether hands did this. A window is closed by what they did before, too."""
+        if kind == _KINDS.Close and not self._waits:
+            return False
+        return kind in _OF_KEYS or kind in _BY_HANDS and isinstance(to, QWindow)
+
+    def _obey(self) -> None:
+        """Has the first of what is held do what it is for, once nothing is waited for."""
+        if self._waits or not self._events:
+            return
+        over, to, event = self._events[0]
+        if QApplication.activeModalWidget() is not over:
+            self.unanswered.emit()
+            self._events.clear()
+            self.changed.emit()
+            return
+        self._events.popleft()
+        # each in a turn of its own, so that a dialog which it opens isn't waited for by the next one
+        self._soon.start()
+        self._obeyed = event
+        is_text = event.type() == _KINDS.InputMethod
+        its = QGuiApplication.focusObject() if is_text else to
+        if its is not None and not isdeleted(its):
+            QCoreApplication.sendEvent(its, event)
+        if not self._events:
+            self.changed.emit()

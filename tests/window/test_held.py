@@ -1,0 +1,203 @@
+"""Keys that are pressed while the window waits: each does after it what it is for, and no text is lost."""
+
+import os
+import signal
+from pathlib import Path
+
+import pytest
+from PyQt6.QtCore import QCoreApplication, QEvent, Qt
+from PyQt6.QtGui import QKeyEvent, QWindow
+from PyQt6.QtWidgets import QApplication, QDialog
+
+from braildesk.desk.drafts import Drafts
+
+from scribe.window.held import Held
+from scribe.words.console import WAITING
+
+from conftest import Open, prints, wait
+from reader import Reader
+from test_kept import session_of
+
+
+def begun(window: Reader) -> int:
+    """Types a new paragraph, stops the program, and presses Enter; the number of its process."""
+    window.press("Ctrl+Return")
+    window.focus("text", "Print")
+    window.type("It rose.")
+    window.reads("Print", "It rose.")
+    program = session_of(window)
+    os.kill(program, signal.SIGSTOP)
+    window.press("Return")
+    window.reads("Message", WAITING)
+    return program
+
+
+def await_kept(window: Reader, book: Path, text: str) -> None:
+    """Waits until a text that was typed while the window waited is kept."""
+
+    def is_there() -> bool:
+        found = Drafts(book).unread()
+        return found is not None and found.text_of_all == text
+
+    window.until(f"“{text}” as what came meanwhile", is_there)
+
+
+def test_what_is_typed_while_the_window_waits_outlives_a_kill(
+    moon: Path, at: Open
+) -> None:
+    window = at(moon)
+    program = begun(window)
+    window.type("It stok")
+    window.press("BackSpace")
+    window.type("od.")
+    window.press("Return")
+    window.type("It set.")
+    await_kept(window, moon, "It stood.\nIt set.")
+    window.program.send_signal(signal.SIGKILL)
+    window.program.wait()
+    os.kill(program, signal.SIGKILL)
+    again = at(moon)
+    again.dialog(
+        "Unsent text",
+        "A text of a new paragraph was typed and isn't in the book: “It rose. It stood. It set.”."
+        " Shall it be typed further?",
+    )
+    again.press("Return")
+    again.no_dialog()
+    again.opened()
+    again.says("Kept")
+    assert prints_after(again, moon)[1:4] == ["It rose.", "It stood.", "It set."]
+
+
+def prints_after(window: Reader, book: Path) -> list[str]:
+    """The prints of a book once its window was closed."""
+    window.press("Ctrl+q")
+    assert window.end() == 0
+    assert Drafts(book).unread() is None
+    return prints(book)
+
+
+def test_keys_that_are_pressed_while_the_window_waits_are_obeyed_once_in_order(
+    moon: Path, at: Open
+) -> None:
+    window = at(moon)
+    program = begun(window)
+    window.type("It stok")
+    window.press("BackSpace")
+    window.type("od.")
+    window.press("Return")
+    window.type("It set. ")
+    window.press("Ctrl+Return")
+    window.type("It came.")
+    await_kept(window, moon, "It stood.\nIt set. It came.")
+    window.click_at(window.row(0))
+    os.kill(program, signal.SIGCONT)
+    window.reads("Print", "The Moon")
+    assert (Drafts(moon).unread(), Drafts(moon).given_up()) == (None, ())
+    wanted = ["It rose.", "It stood.", "It set. ", "It came."]
+    assert prints_after(window, moon)[1:5] == wanted
+
+
+@pytest.mark.parametrize("number", [signal.SIGTERM, signal.SIGKILL])
+def test_what_is_typed_in_no_text_while_the_window_waits_is_set_aside(
+    moon: Path, at: Open, number: signal.Signals
+) -> None:
+    window = at(moon)
+    program = session_of(window)
+    os.kill(program, signal.SIGSTOP)
+    window.press("Down")
+    window.reads("Message", WAITING)
+    window.type("oThe sun rose.")
+    await_kept(window, moon, "oThe sun rose.")
+    window.program.send_signal(number)
+    _, said = window.program.communicate(timeout=120)
+    if number == signal.SIGTERM:
+        assert " ".join(said.decode().split()).endswith(
+            " is kept, and is offered when it is next opened."
+        )
+    else:
+        os.kill(program, signal.SIGKILL)
+    again = at(moon)
+    again.says(
+        "What came while braildesk didn't answer is set aside: “oThe sun rose.”."
+    )
+    assert [each.text for each in Drafts(moon).given_up()] == ["oThe sun rose."]
+
+
+def test_what_is_typed_before_a_dialog_opens_is_no_answer_to_it(
+    moon: Path, at: Open
+) -> None:
+    window = at(moon)
+    window.press("F2")
+    window.focus("text", "Print")
+    program = session_of(window)
+    os.kill(program, signal.SIGSTOP)
+    window.press("Right")
+    window.reads("Message", WAITING)
+    window.press("Ctrl+m")
+    window.type("It set.")
+    window.press("Return")
+    await_kept(window, moon, "It set.")
+    os.kill(program, signal.SIGCONT)
+    top = window.dialog("Mark in paragraph 1")
+    window.says("Ctrl+B brings it back.")
+    assert [each.text for each in Drafts(moon).given_up()] == ["It set."]
+    window.type("who?")
+    window.until("the note", lambda: window.text_in(window.first("text", top)))
+    window.press("Return")
+    window.no_dialog()
+    window.reads("Message", "Kept: mark 2.")
+    assert prints_after(window, moon)[0] == "The Moon"
+
+
+class Pressed(QWindow):
+    """A window that waits at each letter, and what is held then."""
+
+    def __init__(self, held: Held) -> None:
+        super().__init__()
+        self.held = held
+        self.obeyed = ""
+        self.kept: list[str] = []
+        held.changed.connect(lambda: self.kept.append(held.text))
+
+    def press(self, letters: str) -> None:
+        """Has letters come, as a screen reader that has heard of them hands them on."""
+        held, kind = Qt.KeyboardModifier.NoModifier, QEvent.Type.KeyPress
+        for letter in letters:
+            event = QKeyEvent(kind, Qt.Key(ord(letter.upper())), held, letter)
+            QCoreApplication.sendEvent(self, event)
+
+    def keyPressEvent(self, event: QKeyEvent | None) -> None:
+        """Waits, and gets another letter meanwhile."""
+        assert event is not None
+        self.obeyed += event.text()
+        with self.held.holding():
+            if self.obeyed == "a":
+                self.press("d")
+
+
+def test_what_is_obeyed_is_kept_no_more_while_the_next_key_waits(
+    application: QApplication,
+) -> None:
+    window = Pressed(Held())
+    with window.held.holding():
+        window.press("abc")
+    # before what is held is obeyed
+    window.press("x")
+    assert wait(application, 60, lambda: window.obeyed == "abcxd")
+    assert window.kept[:4] == ["a", "ab", "abc", "abcx"]
+    assert window.kept[4:] == ["bcx", "bcxd", "cxd", "xd", "d", ""]
+
+
+def test_a_dialog_that_opens_while_something_is_waited_for_can_be_answered(
+    application: QApplication,
+) -> None:
+    window, dialog = Pressed(Held()), QDialog()
+    dialog.setModal(True)
+    with window.held.holding():
+        window.press("c")
+        dialog.show()
+        window.press("b")
+        assert window.obeyed == "b"
+        dialog.hide()
+    assert wait(application, 60, lambda: window.obeyed == "bc")
