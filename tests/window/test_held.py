@@ -93,7 +93,9 @@ def test_keys_that_are_pressed_while_the_window_waits_are_obeyed_once_in_order(
     window.click_at(window.row(0))
     os.kill(program, signal.SIGCONT)
     window.reads("Print", "The Moon")
-    assert (Drafts(moon).unread(), Drafts(moon).given_up()) == (None, ())
+    drafts = Drafts(moon)
+    window.until("no text to be kept", lambda: drafts.unread() is None)
+    assert drafts.given_up() == ()
     wanted = ["It rose.", "It stood.", "It set. ", "It came."]
     assert prints_after(window, moon)[1:5] == wanted
 

@@ -179,6 +179,7 @@ class Desk:
         finally:
             self.work.stop()
             self.ahead.stop()
+            self.held.stop()
 
     def _go_where_left(self) -> None:
         """Goes to the place at which the book was left, if that is there still."""
@@ -749,10 +750,13 @@ class Desk:
         held = self._text_held()
         if held is None:
             return
-        text = held.text_of_all
-        draft = replace(held.rest, text=text)
-        fault = self.aside.result(lambda: self.unsent.put_by(draft), False)
-        self.say(f"{came_last(text)} {fault or 'Ctrl+B brings it back.'}")
+        draft = replace(held.rest, text=held.text_of_all)
+
+        def look(found: "Future[str]") -> None:
+            how = found.result() or "Ctrl+B brings it back."
+            self.say(f"{came_last(draft.text)} {how}")
+
+        self.aside.post(lambda: self.unsent.put_by(draft), look)
 
     def wait_for_draft(self) -> None:
         """Waits until what is typed is kept as what waits."""

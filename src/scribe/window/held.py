@@ -48,10 +48,15 @@ class Held(QObject):
         self._soon = QTimer(self)
         self._soon.setSingleShot(True)
         self._soon.timeout.connect(self._obey)
-        application = QCoreApplication.instance()
-        assert application is not None
+        self._application = QCoreApplication.instance()
+        assert self._application is not None
         # before a screen reader's, which hears of keys as they are pressed
-        application.installEventFilter(self)
+        self._application.installEventFilter(self)
+
+    def stop(self) -> None:
+        """Holds nothing more, since nothing more is waited for."""
+        if self._application is not None:
+            self._application.removeEventFilter(self)
 
     @contextmanager
     def holding(self) -> Iterator[None]:
