@@ -68,7 +68,7 @@ def test_the_command_adds_lines_and_says_what_is_wrong_with_them(
     words = ["bring", str(tmp_path / "table.utb"), str(tmp_path / "made.utb")]
     ran = scribe(*words, "--anyway", "--add", str(own), folder=tmp_path)
     assert ran.status == 0
-    assert (tmp_path / "made.utb").read_text().endswith("punctuation - 36\n")
+    assert "punctuation - 36\n# The sum of" in (tmp_path / "made.utb").read_text()
     own.write_text("punctuation - 36\nletter a 1\n")
     ran = scribe(*words, "--anyway", "--add", str(own), folder=tmp_path)
     assert ran.status == 2
