@@ -172,7 +172,7 @@ def _is_cut(part: QLabel | QPushButton) -> bool:
 
 
 def test_a_dialog_shows_words_of_a_book_as_they_are(application: QApplication) -> None:
-    asked = "The note of a mark on “<h1>R&D</h1> <img src=/tmp/a>”:"
+    asked = "The note of a mark on “<h1>R&D</h1> <img src=moon.png>”:"
     over = QWidget()
     found: list[str] = []
 
