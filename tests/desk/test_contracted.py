@@ -1005,10 +1005,11 @@ def test_a_book_is_compared_and_nothing_is_changed(tuned_book: Path) -> None:
 
 def test_rules_are_put_into_the_table_where_that_is_asked_for(tuned_book: Path) -> None:
     lines = tune(tuned_book.parent, "--apply")
-    assert lines[-2:] == [
+    assert lines[:2] == [
         "The rules are in the table own.",
         "The book is at version 4.",
     ]
+    assert lines[2].startswith("The table own of own.braildesk is compared with")
     with Session(tuned_book) as session:
         assert session.braille_of(1) == "⠹⠁⠞⠀⠃⠁⠞⠓⠲⠀⠠⠹⠑⠀⠃⠁⠹⠑⠀⠆⠀⠓⠁⠞⠲"
     again = tune(tuned_book.parent, "--apply")

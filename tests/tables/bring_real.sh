@@ -1,6 +1,6 @@
 #!/bin/bash
 # Brings tables of liblouis over, and compares the program's cells with those of liblouis on running text that nobody made for that.
-#   tests/tables/bring_real.sh             eight tables on messages of the programs that are installed, as the gate does: some forty seconds
+#   tests/tables/bring_real.sh             ten tables, eight of them on messages of the programs that are installed, as the gate does: some fifty seconds
 #                                          of a processor; it fails where a share is below its least
 #   tests/tables/bring_real.sh FOLDER      every table for whose language Debian has translated manual pages, which are installed first
 #                                          (as root); writes tests/tables/real/figures.tsv, from which measured.md of src/braildesk/tables/convert is made. In FOLDER

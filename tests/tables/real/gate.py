@@ -1,11 +1,13 @@
-"""Brings eight tables over, and compares them with liblouis on the messages that installed programs have.
+"""Brings ten tables over, and compares eight with liblouis on the messages that installed programs have.
 
-It fails where a table has a smaller share of words than it is known to have, or of plain lines, and where
-a character is refused for which liblouis has cells.
+It fails where a table has a smaller share of words than it is known to have, or of plain lines, where a
+character is refused for which liblouis has cells, where a word of real text has other cells than its
+braille code gives it, and where a table has more lines than the program reads.
 """
 
 import sys
 import tempfile
+from collections.abc import Mapping
 from concurrent.futures import ProcessPoolExecutor
 from dataclasses import dataclass
 from pathlib import Path
@@ -13,7 +15,9 @@ from pathlib import Path
 import measure
 import running
 
+from braildesk.program import translate
 from braildesk.tables.convert.conversion import Options, convert
+from braildesk.tables.convert.draft import MOST_LINES
 from braildesk.tables.convert.source import find_table
 from braildesk.tables.convert.subject import script_of_table
 
@@ -55,8 +59,87 @@ LEAST = (
 """Messages have more Latin words, options and file names than manual pages, so their shares are smaller."""
 
 
-def judged(least: Least) -> tuple[str, bool | None]:
-    """What is said of a table, and whether its shares are large enough; None where lines are too few."""
+BY_HAND: Mapping[str, Mapping[str, str]] = {
+    "de-g1.ctb": {
+        "speziell": "⠎⠏⠑⠵⠊⠑⠇⠇",
+        "Client": "⠉⠇⠊⠑⠝⠞",
+        "Partitionstabelle": "⠏⠁⠗⠞⠊⠞⠊⠕⠝⠎⠞⠁⠃⠑⠇⠇⠑",
+        "angepasst": "⠁⠝⠛⠑⠏⠁⠎⠎⠞",
+        "viel Stein": "⠧⠬⠇⠀⠾⠩⠝",
+        "utf-8": "⠥⠞⠋⠤⠼⠓",
+    },
+    "el.ctb": {
+        "είναι": "⠐⠩⠝⠣",
+        "Είναι": "⠨⠐⠩⠝⠣",
+        "αυτού": "⠡⠞⠐⠥",
+        "το the end ID": "⠞⠕⠀⠰⠞⠓⠑⠀⠰⠑⠝⠙⠀⠰⠠⠊⠠⠙",
+        "ποιος;": "⠏⠪⠕⠎⠢",
+    },
+    "no-no-g0.utb": {
+        "3-linjers": "⠼⠉⠤⠇⠊⠝⠚⠑⠗⠎",
+        "5-7": "⠼⠑⠤⠤⠼⠛",
+        "base64-alfabetet": "⠃⠁⠎⠑⠼⠋⠙⠤⠁⠇⠋⠁⠃⠑⠞⠑⠞",
+    },
+    "ru-litbrl.ctb": {
+        "ядро Linux 5.3": "⠫⠙⠗⠕⠀⠨⠇⠊⠝⠥⠭⠀⠼⠑⠲⠼⠉",
+        "слово the end": "⠎⠇⠕⠺⠕⠀⠠⠞⠓⠑⠀⠑⠝⠙",
+        "их 25.": "⠊⠓⠀⠼⠃⠑⠠⠲",
+        "в 1945.": "⠺⠀⠼⠁⠊⠙⠑⠠⠲",
+        "в 12.05.": "⠺⠀⠼⠁⠃⠲⠼⠚⠑⠠⠲",
+        "the end. The list": "⠠⠞⠓⠑⠀⠑⠝⠙⠲⠀⠞⠓⠑⠀⠇⠊⠎⠞",
+        "в System V и": "⠺⠀⠨⠎⠽⠎⠞⠑⠍⠀⠧⠀⠊",
+        "о New-York": "⠕⠀⠨⠝⠑⠺⠤⠽⠕⠗⠅",
+        "тип root:disk и": "⠞⠊⠏⠀⠠⠗⠕⠕⠞⠒⠙⠊⠎⠅⠀⠊",
+        "тип comp_t и": "⠞⠊⠏⠀⠠⠉⠕⠍⠏⠸⠞⠀⠊",
+        "тип Rela_R и": "⠞⠊⠏⠀⠨⠗⠑⠇⠁⠸⠗⠀⠊",
+        "вид tar --help и": "⠺⠊⠙⠀⠠⠞⠁⠗⠤⠤⠓⠑⠇⠏⠀⠊",
+        "вид mount -a и": "⠺⠊⠙⠀⠠⠍⠕⠥⠝⠞⠤⠁⠀⠊",
+        "в cgroups v1": "⠺⠀⠠⠉⠛⠗⠕⠥⠏⠎⠀⠧⠼⠁",
+        "путь $PATH": "⠏⠥⠞⠾⠀⠈⠙⠨⠏⠁⠞⠓",
+        "прокси-DMA": "⠏⠗⠕⠅⠎⠊⠤⠨⠙⠍⠁",
+    },
+}
+"""Words of real text by tables of the installed liblouis, with the cells that the braille codes give them."""
+
+
+@dataclass(frozen=True)
+class Judged:
+    """What is said of a table, whether it is good, and whether there were lines enough to compare it."""
+
+    said: str
+    is_good: bool
+    is_compared: bool
+
+
+def judged(name: str) -> Judged:
+    """A table that is made, and looked at by words whose cells are known and by messages."""
+    with tempfile.TemporaryDirectory() as folder:
+        made = Path(folder) / "made.utb"
+        text = convert(find_table(name), Options(each=1)).text
+        made.write_text(text, encoding="utf-8")
+        faults = known_faults(name, made, text.count("\n"))
+        if faults:
+            return Judged(f"{name}: {'; '.join(faults)}", False, True)
+        least = next((its for its in LEAST if its.table == name), None)
+        if least is None:
+            return Judged(f"{name}: all words that are known", True, False)
+        return compared(least, made)
+
+
+def known_faults(name: str, made: Path, lines: int) -> list[str]:
+    """Which words have other cells than the braille code gives them, and whether there are too many lines."""
+    words = BY_HAND.get(name, {})
+    found = translate(made, list(words))
+    faults = [
+        f"{word} is {cells}, wanted {words[word]}"
+        for word, cells in zip(words, found, strict=True)
+        if cells != words[word]
+    ]
+    return faults + ([f"{lines} lines"] if lines >= MOST_LINES else [])
+
+
+def compared(least: Least, made: Path) -> Judged:
+    """Whether the shares of a table are large enough on the messages in its language, if there are enough."""
     script = script_of_table(least.language)
     lines = [
         line
@@ -64,43 +147,35 @@ def judged(least: Least) -> tuple[str, bool | None]:
         if running.is_of_script(line, script)
     ][: least.lines]
     if len(lines) < FEWEST_LINES:
-        return (
-            f"{least.table}: {len(lines)} lines of messages in {least.language}, too few",
-            None,
-        )
-    with tempfile.TemporaryDirectory() as folder:
-        made = Path(folder) / "made.utb"
-        made.write_text(
-            convert(find_table(least.table), Options(each=1)).text, encoding="utf-8"
-        )
-        found = measure.measure(least.table, made, measure.in_first_plane(lines))
-    good = (
-        found.words.share >= least.words
-        and found.plain.share >= least.plain
-        and not found.refused
-    )
+        said = f"{least.table}: {len(lines)} lines of messages in {least.language}, too few"
+        return Judged(said, True, False)
+    found = measure.measure(least.table, made, measure.in_first_plane(lines))
     said = (
         f"{least.table}: {found.lines.of_all} lines, of the words {found.words.share:.2%} and of"
         f" {found.plain.of_all} plain lines {found.plain.share:.2%} with the same cells,"
         f" {found.refused} refused"
     )
-    return (
-        (said, True)
-        if good
-        else (f"{said}; wanted {least.words:.2%} and {least.plain:.2%}", False)
-    )
+    if (
+        found.words.share < least.words
+        or found.plain.share < least.plain
+        or found.refused
+    ):
+        wanted = f"wanted {least.words:.2%} and {least.plain:.2%}"
+        return Judged(f"{said}; {wanted}", False, True)
+    return Judged(said, True, True)
 
 
 def main() -> int:
     """Judges each table."""
+    names = dict.fromkeys((*BY_HAND, *(its.table for its in LEAST)))
     with ProcessPoolExecutor(2) as pool:
-        found = list(pool.map(judged, LEAST))
-    for said, good in found:
-        print(f"{'ok  ' if good else '    '}{said}")
-    failed = [said for said, good in found if good is False]
+        found = list(pool.map(judged, names))
+    for each in found:
+        print(f"{'ok  ' if each.is_good else '    '}{each.said}")
+    failed = [each.said for each in found if not each.is_good]
     for said in failed:
         print(f"tests/tables/bring_real.sh: {said}", file=sys.stderr)
-    if sum(good is not None for _, good in found) < FEWEST_TABLES:
+    if sum(each.is_compared for each in found) < FEWEST_TABLES:
         print(
             "tests/tables/bring_real.sh: too few programs have their messages installed in other"
             " languages, which Debian's git and binutils have unless /usr/share/locale is left out",

@@ -17,10 +17,18 @@ MOST_CELLS: Final = 20
 
 _DOTS: Final = re.compile(r"[0-9a-f]+(?:-[0-9a-f]+)*")
 _VIRTUAL: Final = "9abcdef"
+_ESCAPED: Final = re.compile(r"[\\ ]|\A#")
+_WRITTEN_CELLS: Final = tuple(
+    "".join(str(dot) for dot in range(1, 9) if cell >> (dot - 1) & 1) or "0"
+    for cell in range(256)
+)
 
 
 def write_characters(characters: str) -> str:
     """An operand that stands for these characters, and begins no comment."""
+    if characters.isprintable() and not _ESCAPED.search(characters):
+        # as nearly all are, of which each character stands for itself
+        return characters
     return "".join(
         _written(character, first=place == 0)
         for place, character in enumerate(characters)
@@ -67,10 +75,7 @@ def _mask(cell: str) -> int:
 
 def write_dots(cells: Iterable[int]) -> str:
     """A dots operand for these cells."""
-    return "-".join(
-        "".join(str(dot) for dot in range(1, 9) if cell >> (dot - 1) & 1) or "0"
-        for cell in cells
-    )
+    return "-".join([_WRITTEN_CELLS[cell] for cell in cells])
 
 
 def shown(cells: Iterable[int]) -> str:
