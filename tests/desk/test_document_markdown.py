@@ -91,6 +91,36 @@ def test_what_a_text_says_about_itself_is_typed_or_missing() -> None:
     assert found.missing == (Missing("wide page", "", ""),)
 
 
+def test_what_stands_between_lines_of_hyphens_after_the_front_is_print() -> None:
+    found = read(
+        "\n---\ntitle: The Moon\n\n---\nDawn.\n\n---\nAnna: Go.\n---\n\nNoon.\n\n---\nAnna: No: I stay.\n"
+        "---\n\n---\n# Night\n---\n\n~~~\n\n---\na: b\n~~~\n\nLate\n---\n\n---\n\nEnd\n"
+    )
+    assert found.texts == [
+        *("The Moon", "Dawn.", "Anna: Go.", "Noon.", "Anna: No: I stay."),
+        *("# Night", "---", "a: b", "Late", "End"),
+    ]
+    assert not found.missing
+
+
+@pytest.mark.parametrize(
+    "before, texts",
+    [
+        # what stands within a line, and signs that end no others
+        ("```sea``` rises", ["sea rises"]),
+        ("```\n~~~\n```", ["~~~"]),
+        ("````\n```\n````", ["```"]),
+        ("~~~\n~~~ sea\n~~~", ["~~~ sea"]),
+    ],
+)
+def test_what_stands_between_lines_of_hyphens_after_what_is_shown_as_written_is_print(
+    before: str, texts: list[str]
+) -> None:
+    found = read(f"---\n...\n\n{before}\n\n---\nAnna: no\n---\n\nEnd\n")
+    assert found.texts == [*texts, "Anna: no", "End"]
+    assert not found.missing
+
+
 def test_a_note_to_which_several_numbers_lead_is_typed_once() -> None:
     found = read(
         "One[^a], two[^b] and^[Ibid.] again[^a].\n\nThree[^a]^[Ibid.][^c][^d].\n\n"
@@ -148,6 +178,13 @@ def test_what_nothing_ends_is_looked_for_in_a_time_that_grows_as_the_text_does(
         ("[^b]: off\n\n    ever\n[^a]: > far", ["[1: far]"]),
         ("# On\n[^a]: 1. far", ["[1: 1. far]", "On"]),
         ("[moon]: a.md\n[^a]: far", ["[1: far]"]),
+        ("- on\n\n    [^a]: far\n\n        near", ["[1: far near]", "\u2022 on"]),
+        ("1. on\n\n   > [^a]: far\n   > near", ["[1: far near]", "1. on"]),
+        ("- [^a]: far\n\n    on\n    > off", ["[1: far]", "\u2022 on > off"]),
+        (
+            "\t[^a]: off\n\n(2) [^a]: - far\n\n    (a) on\n",
+            ["[1: \u2022 far]", "[^a]: off", "(2) (a) on"],
+        ),
     ],
 )
 def test_a_note_of_several_numbers_is_typed_once_whatever_it_begins_with(
@@ -168,3 +205,10 @@ def test_a_note_that_is_typed_after_each_of_its_numbers_is_noted() -> None:
 def test_a_line_like_a_note_that_goes_on_with_a_text_is_no_note() -> None:
     found = read("One[^a], two[^a]\n[^a]: three\n\n```\n[^a]: far\n```\n")
     assert found.texts == ["One[^a], two[^a] [^a]: three", "[^a]: far"]
+    assert not lost(found)
+
+
+def test_a_line_like_a_note_with_which_a_text_goes_on_uses_the_note() -> None:
+    found = read("One[^a]\n[^a]: three\n\n[^a]: far\n")
+    assert found.texts == ["One[1] [1]: three", "[1: far]"]
+    assert not lost(found)

@@ -5,6 +5,8 @@ from itertools import takewhile
 
 import pytest
 
+from braildesk.desk.documents.document import read_document
+from braildesk.desk.documents.kinds import ManuscriptKind
 from braildesk.desk.documents.reading import LossKind, Manuscript
 from braildesk.desk.manuscripts import read_manuscript
 
@@ -77,6 +79,46 @@ CASES = (
         ("Far.[A]", "[A: Very. Indeed.]"),
     ),
     Case(
+        "Texinfo",
+        '<p>Far<a id="DOCF1" href="#FOOT1"><sup>1</sup></a>, near<a class="footnote" id="DOCF2"'
+        ' href="#FOOT2"><sup>2</sup></a> or here<a id="DOCF3" href="#FOOT3"><sup>3</sup></a>.</p>'
+        '<div class="footnotes-segment"><hr><h4 class="footnotes-heading">Footnotes</h4>'
+        '<h5><a id="FOOT1" href="#DOCF1">(1)</a></h5><p>Very.</p><ul><li>Indeed.</li></ul>'
+        '<h5 class="footnote-body-heading"><a id="FOOT2" href="#DOCF2">(2)</a></h5><p>Quite.</p>'
+        '<h5><a id="FOOT3" href="#DOCF3">(3)</a></h3><p>So.</p><hr><p>The rest.</p></div>'
+        '<p>Or<a id="DOCF4" href="#FOOT4"><sup>4</sup></a>.</p><hr>'
+        '<h5><a id="FOOT4" href="#DOCF4">(4)</a></h3><p>Or not.</p>',
+        (
+            "Far[1], near[2] or here[3].",
+            "[1: Very. • Indeed.]",
+            "[2: Quite.]",
+            "[3: So.]",
+            "Footnotes",
+            "The rest.",
+            "Or[4].",
+            "[4: Or not.]",
+        ),
+    ),
+    Case(
+        "Org",
+        '<p>Far<sup><a id="fnr.1" class="footref" href="#fn.1" role="doc-backlink">1</a></sup>.</p>'
+        '<div id="footnotes"><h2 class="footnotes">Footnotes: </h2><div id="text-footnotes">'
+        '<div class="footdef"><sup><a id="fn.1" class="footnum" href="#fnr.1"'
+        ' role="doc-backlink">1</a></sup> <div class="footpara" role="doc-footnote">'
+        '<p class="footpara">Very.</p></div></div></div></div>',
+        ("Far[1].", "[1: Very.]", "Footnotes:"),
+    ),
+    Case(
+        "Word and LibreOffice",
+        '<p>Far<a href="#_ftn1" name="_ftnref1"><span class=MsoFootnoteReference>[1]</span></a>,'
+        ' near<a class="sdendnoteanc" name="sdendnote1anc" href="#sdendnote1sym"><sup>i</sup></a>'
+        ' or so.</p><div><hr><div id=ftn1><p><a href="#_ftnref1" name="_ftn1"><span>[1]</span></a>'
+        ' Very.</p><p>Indeed.</p></div></div><div id="sdendnote1"><p class="sdendnote"><a'
+        ' class="sdendnotesym" name="sdendnote1sym" href="#sdendnote1anc">i</a>Quite.</p><p>So.</p>'
+        "</div>",
+        ("Far[1], near[i] or so.", "[1: Very. Indeed.]", "[i: Quite. So.]"),
+    ),
+    Case(
         "numbers of which nothing says that they are notes",
         '<p>Far<sup><a href="#n1" id="m1">1</a></sup> or near<a href="#n3" id="m3">*</a>.</p>'
         '<ol><li id="n1"><a href="#m1">1</a> Very. <a href="#m1">↩</a></li><li>Two</li>'
@@ -86,8 +128,9 @@ CASES = (
     Case(
         "numbers that lead to parts of the book",
         '<p>See <a href="#c1">1</a> and <a href="#c2">2</a>.</p>'
-        '<p id="c1">1 moon</p><div id="c2"><p><a href="#c1">2</a> moons</p><h2>A part</h2></div>',
-        ("See 1 and 2.", "1 moon", "2 moons", "A part"),
+        '<p id="c1">1 moon</p><div id="c2"><p><a href="#c1">2</a> moons</p><h2>A part</h2></div>'
+        '<p><a id="b3" href="#c3">3</a></p><h2><a id="c3" href="#b3">3</a></h2><p>moons</p>',
+        ("See 1 and 2.", "1 moon", "2 moons", "A part", "3", "3", "moons"),
     ),
     Case(
         "a number without its note",
@@ -124,3 +167,21 @@ def test_no_word_of_the_notes_is_lost_and_a_note_that_is_not_there_is_noted(
         "Far[7]."
     ]
     assert all(each.what is not LossKind.SUPERSCRIPT for each in found.losses)
+
+
+def test_the_number_of_a_note_is_no_part_of_the_word_before_it() -> None:
+    numbers = "".join(
+        f'<p>{word}<a href="#n{n}" id="m{n}"><sup>{n}</sup></a>{end}.</p>'
+        for n, (word, end) in enumerate(
+            [("UCS-2", ""), ("7", ""), ("\u2018far\u2019", ""), ("\u6708", "\u306f")], 1
+        )
+    )
+    notes = "".join(
+        f'<p id="n{n}"><a href="#m{n}">{n}</a> near</p>' for n in range(1, 5)
+    )
+    page = f'<html>{numbers}<p>w<a href="#n9">as i</a>s</p>{notes}</html>'
+    found = read_document(page.encode(), ManuscriptKind.HTML)
+    assert found.texts[::2] == [
+        *("UCS-2[1].", "7[2].", "\u2018far\u2019[3].", "\u6708[4]\u306f.", "was is")
+    ]
+    assert not found.missing

@@ -115,10 +115,33 @@ def test_a_row_and_a_cell_of_a_text_in_odt_that_stand_for_several_are_noted(
     assert (same, found.missing) == (["a", "c d"], ())
 
 
+def empty(count: int, inner: str = "<text:p/>") -> str:
+    """An empty cell that stands for several."""
+    several = f'table:number-columns-repeated="{count}"'
+    return f"<table:table-cell {several}>{inner}</table:table-cell>"
+
+
+def test_empty_cells_of_a_text_in_odt_that_are_written_once_have_a_place_each(
+    tmp_path: Path,
+) -> None:
+    rows = row(cell("a"), cell("b"), cell("c", 2), cell("d"))
+    rows += row(empty(2, ""), covered(), cell("e"))
+    rows += row(cell("f"), empty(2), cell("g"), empty(9)) + row(empty(4))
+    # such cells at the end of many rows are too many for no reader
+    rows += row(cell("h"), empty(1_000)) * 200
+    found = read_manuscript(
+        odt(tmp_path / "a.odt", f"<table:table>{rows}</table:table>")
+    )
+    texts = ["a; b; c; d", "; ; ; e", "f; ; ; g", *["h"] * 200]
+    assert [each.rstrip("; ") for each in found.texts] == texts
+    assert found.missing == ()
+
+
 #: Tables of few characters that have a million places.
 HUGE_TABLES = [
     row(*[cell("a", 1_000)] * 1_000) + row(covered(1_000)) * 999,
     row(*[cell("a")] * 1_000) + row(cell("b")) * 1_000,
+    row(empty(1_000), cell("a")) * 200,
 ]
 
 
@@ -172,6 +195,40 @@ def test_a_text_in_markdown_of_tables_with_far_more_places_than_cells_is_refused
     with pytest.raises(NoDocument) as found:
         read_document(f"One\n\n{text}\n".encode(), ManuscriptKind.MARKDOWN)
     assert found.value.why is WhyNot.TABLES
+
+
+def test_cells_of_a_row_in_markdown_beyond_the_columns_of_its_table_are_missing() -> (
+    None
+):
+    text = (
+        "| a | b | *c* |\n|---|:-:|\n| d | `e | f` |\n| g \\| h | i |\n| j | k | l m |\n\n"
+        "> n | o\n> --|--\n> p | q | r\n\nGo s | t | u\nfor it.\n"
+    )
+    found = read_document(text.encode(), ManuscriptKind.MARKDOWN)
+    rows = [
+        "a; b",
+        "d; e | f",
+        "g | h; i",
+        "j; k",
+        "n; o",
+        "p; q",
+        "Go s | t | u for it.",
+    ]
+    assert found.texts == rows
+    assert [each.words for each in found.missing] == ["c", "l m", "r"]
+
+
+def test_words_in_markdown_across_the_front_of_a_column_are_missing() -> None:
+    text = "Far    Near\n-----  -----\non     off\nfar and near\n\nTo be or\n--- ---\nx   y\n"
+    found = read_document(text.encode(), ManuscriptKind.MARKDOWN)
+    assert found.texts == [
+        "Far; Near",
+        "on; off",
+        "far and; near",
+        "To b; e or",
+        "x; y",
+    ]
+    assert [each.words for each in found.missing] == ["be"]
 
 
 def test_columns_of_a_table_in_markdown_are_not_counted_after_it() -> None:

@@ -6,6 +6,7 @@ from pathlib import Path
 
 import pytest
 
+from braildesk.desk.documents.kinds import NoDocument, WhyNot
 from braildesk.desk.documents.reading import Loss, LossKind, Missing
 from braildesk.desk.manuscripts import read_manuscript
 
@@ -90,6 +91,61 @@ def test_a_cell_that_goes_on_over_rows_has_an_empty_place_in_those_below(
         ),
         (),
     )
+
+
+def later(column: int) -> str:
+    """What says of a row that it begins at a later column, counted from 0."""
+    return f'<w:trPr><w:gridBefore w:val="{column}"/></w:trPr>'
+
+
+def with_rows(tables: str) -> str:
+    """Tables in which what is said of a row at the front of its first cell stands before that."""
+    return re.sub("<w:tc>(<w:trPr>.*?</w:trPr>)", r"\1<w:tc>", tables)
+
+
+def test_rows_of_a_table_keep_their_order_whichever_is_said_to_be_its_head(
+    tmp_path: Path,
+) -> None:
+    head, first = "<w:trPr><w:tblHeader/></w:trPr>", '<w:vMerge w:val="restart"/>'
+    body = table(
+        (cell("a"), cell("b", first)),
+        (head + cell("c"), cell("", "<w:vMerge/>")),
+        (cell("d"), cell("e")),
+        (head + cell("f"), cell("g")),
+    )
+    found = read_manuscript(docx(tmp_path / "a.docx", with_rows(body)))
+    assert (found.texts, found.missing) == (["a; b", "c;", "d; e", "f; g"], ())
+
+
+def test_a_row_that_begins_at_a_later_column_has_a_place_for_each_cell_before(
+    tmp_path: Path,
+) -> None:
+    wide, first = '<w:gridSpan w:val="2"/>', '<w:vMerge w:val="restart"/>'
+    body = table(
+        (cell("a"), cell("b"), cell("c")),
+        (later(1) + cell("d", first), cell("e")),
+        (later(1) + cell("", "<w:vMerge/>"), cell("f")),
+        (later(2) + cell("g"),),
+    )
+    # where a row begins somewhat further on than others, it has all the cells that they have
+    body += table((cell("h", wide), cell("i")), (later(1) + cell("j"), cell("k")))
+    body += table((cell("l", wide), cell("m")), (later(2) + cell("n"),))
+    body += table((later(1) + cell("o"), cell("p")))
+    found = read_manuscript(docx(tmp_path / "a.docx", with_rows(body)))
+    assert [each.rstrip("; ") for each in found.texts] == [
+        *("a; b; c", "; d; e", "; ; f", "; ; g"),
+        *("h; i", "j; k", "l; m", "; n", "o; p"),
+    ]
+    assert found.missing == ()
+
+
+def test_a_document_in_which_many_rows_begin_far_from_the_front_is_refused(
+    tmp_path: Path,
+) -> None:
+    rows = [[cell("a")] * 1_000, *[[later(999) + cell("b")]] * 1_000]
+    with pytest.raises(NoDocument) as found:
+        read_manuscript(docx(tmp_path / "a.docx", with_rows(table(*rows))))
+    assert found.value.why is WhyNot.TABLES
 
 
 @pytest.mark.parametrize("grid", ["", "<w:tblGrid><w:gridCol/></w:tblGrid>"])

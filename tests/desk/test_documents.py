@@ -10,6 +10,7 @@ import zipfile
 from collections.abc import Callable
 from io import BytesIO
 from pathlib import Path
+from typing import Any
 from xml.etree import ElementTree
 
 import pytest
@@ -28,6 +29,7 @@ from braildesk.desk.documents.kinds import (
     repacked,
     unpacked,
 )
+from braildesk.desk.documents.markdown_notes import repeated, with_marks
 from braildesk.desk.documents.pandoc import office, tree
 from braildesk.desk.documents.options import ReadingOptions
 from braildesk.desk.documents.reading import (
@@ -454,6 +456,13 @@ NO_BOOK = '<container xmlns="urn:oasis:names:tc:opendocument:xmlns:container"/>'
         ({"mimetype": EPUB, "META-INF/encryption.xml": ADOBE}, WhyNot.COPY_PROTECTED),
         ({"mimetype": ODT, "META-INF/manifest.xml": MANIFEST}, WhyNot.ENCRYPTED),
         ({"mimetype": ODT, "META-INF/manifest.xml": "no XML"}, WhyNot.DAMAGED),
+        (
+            {
+                "mimetype": ODT,
+                "META-INF/manifest.xml": MANIFEST.replace("xmlns:m", "x"),
+            },
+            WhyNot.ENCRYPTED,
+        ),
     ],
 )
 def test_containers_that_no_program_can_read_are_refused(
@@ -462,6 +471,15 @@ def test_containers_that_no_program_can_read_are_refused(
     with pytest.raises(NoDocument) as found:
         kind_of("moon.epub", container_of(tmp_path / "moon", **parts))
     assert found.value.why is why
+
+
+def test_a_text_in_odt_is_one_whose_list_of_parts_has_no_address_for_its_prefix(
+    tmp_path: Path,
+) -> None:
+    manifest = "<m:manifest><m:file-entry/></m:manifest>"
+    parts = {"mimetype": ODT, "META-INF/manifest.xml": manifest}
+    kind = kind_of("moon.ott", container_of(tmp_path / "moon", **parts))
+    assert kind is ManuscriptKind.ODT
 
 
 @pytest.mark.parametrize(
@@ -507,6 +525,45 @@ def test_a_container_that_unpacks_to_too_much_is_not_read(
     assert found.value.why is WhyNot.TOO_LARGE
 
 
+def test_a_container_of_more_tags_than_any_manuscript_has_is_not_read(
+    tmp_path: Path, monkeypatch: pytest.MonkeyPatch
+) -> None:
+    path = docx(tmp_path / "moon.docx", paragraph(run("a")) * 1_000)
+    monkeypatch.setattr(kinds, "MOST_TAGS", 5_000)
+    with pytest.raises(NoDocument) as found:
+        read_manuscript(path)
+    assert found.value.why is WhyNot.TOO_LARGE
+    with pytest.raises(NoDocument):
+        kinds.root_of(b"<a/>" * 5_001)
+
+
+@pytest.mark.filterwarnings("ignore:Duplicate name")
+@pytest.mark.parametrize(
+    "name", ["customXml/item1.xml", "word/document.xml", "word/header1.xml"]
+)
+def test_parts_of_one_name_are_not_unpacked_for_each_of_them(
+    tmp_path: Path, monkeypatch: pytest.MonkeyPatch, name: str
+) -> None:
+    path = docx(tmp_path / "moon.docx", paragraph(run("The moon")))
+    with zipfile.ZipFile(path, "a", zipfile.ZIP_DEFLATED) as container:
+        last = container.read("word/document.xml") + b" " * 5_001
+        for part in (*[b""] * 1_000, last):
+            container.writestr(name, part)
+    monkeypatch.setattr(kinds, "MOST_TAGS", 5_000)
+    opened: list[object] = []
+    open_part = zipfile.ZipFile.open
+
+    def counted(
+        container: zipfile.ZipFile, name: str, *words: Any, **named: Any
+    ) -> Any:
+        opened.append(name)
+        return open_part(container, name, *words, **named)
+
+    monkeypatch.setattr(zipfile.ZipFile, "open", counted)
+    assert read_manuscript(path).texts == ["The moon"]
+    assert 0 < opened.count(name) < 20
+
+
 def test_kinds_that_need_a_program_name_it(
     tmp_path: Path, monkeypatch: pytest.MonkeyPatch
 ) -> None:
@@ -538,6 +595,23 @@ def test_items_are_numbered_as_they_are_in_print(tmp_path: Path) -> None:
     assert read_manuscript(path).texts == ["iv) a", "v) b", "z", "(B) c", "1. d"]
 
 
+@pytest.mark.parametrize(
+    "start, kind, shown",
+    [
+        ("3999", "i", "mmmcmxcix"),
+        ("9000000000000000", "I", "9000000000000000"),
+        ("-3", "I", "-3"),
+        ("0", "a", "0"),
+    ],
+)
+def test_a_number_that_no_letters_stand_for_is_written_in_digits(
+    start: str, kind: str, shown: str
+) -> None:
+    # so many letters would take all of the memory
+    page = f"<html><body><ol start={start} type={kind}><li>x</li></ol>".encode()
+    assert read_document(page, ManuscriptKind.HTML).texts == [f"{shown}. x"]
+
+
 def test_notes_of_markdown_that_nothing_leads_to_are_words_that_are_missing(
     tmp_path: Path,
 ) -> None:
@@ -563,6 +637,13 @@ def test_notes_of_markdown_that_nothing_leads_to_are_words_that_are_missing(
     )
 
 
+def test_notes_to_which_notes_alone_lead_are_words_that_are_missing() -> None:
+    text = "The moon.[^1]\n\n[^1]: Full.[^2]\n\n[^2]: It is *round*.[^3]\n\n[^3]: See [^1].\n"
+    found = read_document(text.encode(), ManuscriptKind.MARKDOWN)
+    assert found.texts[0] == "The moon.[1]"
+    assert [each.words for each in found.missing] == ["It is round 3", "See"]
+
+
 def test_what_stands_between_lines_of_hyphens_is_print(tmp_path: Path) -> None:
     path = tmp_path / "scenes.md"
     path.write_text("Dawn.\n\n---\nAnna: Go.\nBob: No.\n---\n\nNoon.\n")
@@ -586,9 +667,33 @@ def test_what_markdown_takes_for_the_address_of_a_link_is_missing_if_it_is_none(
         "Bob goes, and [Eve]: too.",
     ]
     assert found.missing == (
-        Missing("I don't know it", "", ""),
+        Missing("Anna I don't know it", "", ""),
         Missing("I go", "", "too"),
     )
+
+
+def test_what_markdown_takes_for_the_address_of_a_link_is_missing_in_lists_too(
+    tmp_path: Path,
+) -> None:
+    path = tmp_path / "rules.md"
+    path.write_text(
+        "Rules:\n\n- [Note]: see the end\n- [Tip]: more\n\n> # Act\n> [Anna]: He was *wrong*.\n\n"
+        "1. On\n\n    [Moon]: far\n\n~~~\n[Sun]: *a*\n~~~\n\n> or\n> [Bob]: not\n\n::: {.x}\n[Eve]: so\n:::\n"
+    )
+    found = read_manuscript(path)
+    shown = [
+        "Rules:",
+        "\u2022",
+        "\u2022",
+        "Act",
+        "1. On",
+        "[Sun]: *a*",
+        "or [Bob]: not",
+    ]
+    assert found.texts == shown
+    assert [each.words for each in found.missing] == [
+        *("Note see the end", "Tip more", "Anna He was wrong", "Moon far", "Eve so")
+    ]
 
 
 def test_a_long_document_is_read_whole(tmp_path: Path) -> None:
@@ -953,6 +1058,17 @@ def test_what_a_text_in_odt_computes_is_typed_as_it_is_shown(tmp_path: Path) -> 
     assert [each.words for each in found.missing] == ["7"]
 
 
+def test_places_of_a_text_in_odt_that_are_to_be_filled_in_are_typed_as_shown(
+    tmp_path: Path,
+) -> None:
+    place = (
+        '<text:placeholder text:placeholder-type="text">&lt;{}&gt;</text:placeholder>'
+    )
+    text = f"<text:p>Dear {place.format('Title')}{place.format('Name')},</text:p>"
+    found = read_manuscript(odt(tmp_path / "a.odt", text))
+    assert (found.texts, found.missing) == (["Dear <Title><Name>,"], ())
+
+
 def test_formulas_of_an_odt_that_pandoc_wrote_are_typed(tmp_path: Path) -> None:
     path = tmp_path / "moon.odt"
     words = ["pandoc", "--from", "markdown", "--output", str(path)]
@@ -960,6 +1076,22 @@ def test_formulas_of_an_odt_that_pandoc_wrote_are_typed(tmp_path: Path) -> None:
     found = read_manuscript(path)
     assert found.texts == ["Near x and y + 1."]
     assert lost(found, LossKind.MATHEMATICS) == ["x", "y + 1"]
+
+
+def test_words_of_an_odt_that_stand_apart_are_no_part_of_others(
+    tmp_path: Path, monkeypatch: pytest.MonkeyPatch
+) -> None:
+    # which would type some of them
+    monkeypatch.setattr(pandoc, "office", lambda: None)
+    picture = "<svg:title>A</svg:title><svg:desc>crater</svg:desc>"
+    ruby = "<text:ruby-base>\u6f22</text:ruby-base><text:ruby-text>kan</text:ruby-text>"
+    text = (
+        f"<text:p>On<draw:frame>{picture}</draw:frame> or near<draw:frame>{picture}</draw:frame>"
+        f" the Moon <text:ruby>{ruby}</text:ruby></text:p>"
+    )
+    found = read_manuscript(odt(tmp_path / "a.odt", text))
+    words = [*"".join(found.texts).split(), *(each.words for each in found.missing)]
+    assert " ".join(words) == "On or near the Moon A crater A crater \u6f22 kan"
 
 
 def test_words_of_an_odt_that_a_condition_hides_are_missing(tmp_path: Path) -> None:
@@ -1300,6 +1432,21 @@ def test_rtf_and_doc_are_what_libreoffice_makes_of_them(
         read_document(WORD, ManuscriptKind.DOC)
 
 
+def test_libreoffice_is_told_to_fetch_nothing_to_which_a_document_links(
+    tmp_path: Path, programs: Path
+) -> None:
+    made = docx(tmp_path / "made.docx", paragraph(run("Made")))
+    settings = '"${1#-env:UserInstallation=file://}/user/registrymodifications.xcu"'
+    program(
+        programs,
+        "soffice",
+        f"grep -q 'BlockUntrustedRefererLinks.*<value>true</value>' {settings} || exit 1",
+        'mkdir -p "$6"',
+        f'cp {made} "$6/manuscript.docx"',
+    )
+    assert read_document(WORD, ManuscriptKind.DOC).texts == ["Made"]
+
+
 def test_odt_is_taken_as_it_loses_fewer_words(tmp_path: Path, programs: Path) -> None:
     made = docx(tmp_path / "made.docx", paragraph(run("One two")))
     program(programs, "soffice", 'mkdir -p "$6"', f'cp {made} "$6/manuscript.docx"')
@@ -1339,6 +1486,11 @@ def test_a_program_that_takes_too_long_is_given_up(
     assert given_up("echo none") == "can't be read by pandoc, which doesn't say why"
 
 
+def test_only_what_hangs_takes_too_long_by_the_clock() -> None:
+    # of four processors that a hundred programs want
+    assert pandoc._SECONDS > 25 * pandoc._MOST_SECONDS
+
+
 @pytest.mark.parametrize(
     "tags", [("<div>", "</div>"), ("<blockquote>", "</blockquote>")]
 )
@@ -1353,6 +1505,18 @@ def test_a_page_that_is_nested_too_deeply_is_refused_before_it_is_read(
         with pytest.raises(NoDocument) as found:
             read_document(data, kind)
         assert found.value.why is WhyNot.TOO_DEEP
+
+
+@pytest.mark.parametrize("front", ["<!--", "<![CDATA[", "<!x", "<?", "</", '<p a=">"'])
+def test_a_page_is_refused_in_which_nothing_ends_many_tags(front: str) -> None:
+    def page(count: int) -> bytes:
+        return f"<html><body><p>The moon</p>{front * count}".encode()
+
+    # each is looked for up to the end of the page
+    with pytest.raises(NoDocument) as found:
+        read_document(page(1_000), ManuscriptKind.HTML)
+    assert found.value.why is WhyNot.DAMAGED
+    assert read_document(page(3), ManuscriptKind.HTML).texts[0] == "The moon"
 
 
 #: A document of 50,000 words takes 2 seconds, nearly all of a processor, where nothing else runs. The
@@ -1386,6 +1550,50 @@ def test_a_document_of_fifty_thousand_words_is_read_in_a_few_seconds(
     found = read_manuscript(path)
     assert of_processor() - began < SECONDS
     assert found.texts == wanted and not found.missing
+
+
+def test_very_many_blanks_after_the_key_of_a_link_take_no_time() -> None:
+    began = of_processor()
+    assert contents.addresses_of(f"[moon]:{' ' * 100_000}x y z\n\n[moon]\n")
+    assert of_processor() - began < SECONDS
+
+
+@pytest.mark.parametrize(
+    "line",
+    [
+        # what is indented, and no front of a note
+        " " * 200_000 + "x",
+        # what ends no address, and no emphasis
+        "[sea]: " + "](" * 100_000,
+        "[sea]: x" + "_" * 200_000 + "y",
+        # a rule of many columns with many lines that have few
+        "- " * 50_000 + "\n" + "-\n" * 50_000,
+        "ab\n" * 50_000 + "- " * 50_000,
+    ],
+    ids=["blanks", "addresses", "emphasis", "rows", "rows above"],
+)
+def test_signs_of_markdown_that_are_very_many_take_little_time(line: str) -> None:
+    text = f"{line}\n\nThe moon[^1] and[^1]\n\n[^1]: The sea\n"
+    began = of_processor()
+    with_marks(text)
+    contents.keys_in_notes(text)
+    contents.addresses_of(text)
+    contents.rows_of(text)
+    assert of_processor() - began < SECONDS
+
+
+def test_very_many_lines_like_notes_that_are_repeated_take_little_time() -> None:
+    notes = [
+        {"t": "Note", "c": [{"t": "Str", "c": f"moon{n // 2}"}]} for n in range(40_000)
+    ]
+    lines = [
+        Loss(LossKind.NOTE_AGAIN, f"[^{n}]: {word}{n}", "")
+        for n in range(20_000)
+        for word in ("moon", "sea")
+    ]
+    began = of_processor()
+    assert repeated({"blocks": notes}, lines) == lines[::2]
+    assert of_processor() - began < SECONDS
 
 
 READS = """
@@ -1440,6 +1648,13 @@ def test_readings_on_a_page_stand_in_brackets(page: str, text: str) -> None:
     assert (found.texts, found.missing) == ([text], ())
 
 
+def test_readings_stand_in_brackets_after_signs_that_begin_no_character() -> None:
+    page = "<p>Q&#A; R&#65bc &#;</p><p><ruby>漢<rt>kan</rt></ruby></p>"
+    found = read_document(f"<html><body>{page}".encode(), ManuscriptKind.HTML)
+    assert found.texts == ["Q&#A; RAbc &#;", "漢(kan)"]
+    assert not found.missing
+
+
 def test_a_reading_that_nothing_ends_ends_with_its_paragraph() -> None:
     page = (
         "<html><p>A <ruby>漢<rt>kan far</p><p>b <ruby>字<rt>ji</rt></ruby></ruby></p><table><tr>"
@@ -1469,6 +1684,14 @@ def test_templates_on_a_page_are_no_print() -> None:
     assert (found.missing, found.losses) == ((), ())
 
 
+@pytest.mark.parametrize("tag", ["dfn", "kbd", "mark"])
+def test_a_page_is_read_on_which_a_paragraph_ends_what_is_open_in_it(tag: str) -> None:
+    page = f"<html><p>Press <{tag}>Enter</p><p>or <{tag}>Tab<div>twice</div> here</p></html>"
+    found = read_document(page.encode(), ManuscriptKind.HTML)
+    assert " ".join(found.texts) == "Press Enter or Tab twice here"
+    assert found.missing == ()
+
+
 def test_what_fields_of_a_form_on_a_page_show_is_print() -> None:
     page = (
         "<html><form><p>Name <input value='Anna &amp; Ben'>, <input type=hidden value=no>"
@@ -1478,6 +1701,29 @@ def test_what_fields_of_a_form_on_a_page_show_is_print() -> None:
     found = read_document(page.encode(), ManuscriptKind.HTML)
     assert found.texts == ["Name Anna & Ben , Go", "x = 1", "y = x", "Copy"]
     assert found.missing == ()
+
+
+def test_quotations_on_a_page_have_their_marks_whatever_ends_them() -> None:
+    page = (
+        "<html><p>He <q>said <q>go</q></q></p><p>She <q>said <q>no</p><p>They <q cite=x>left</q>"
+        "</p><q><p>At once</p></q><p>or </q>not</p></html>"
+    )
+    found = read_document(page.encode(), ManuscriptKind.HTML)
+    assert " ".join(found.texts) == (
+        "He \u201csaid \u2018go\u2019\u201d She \u201csaid \u2018no\u2019\u201d"
+        " They \u201cleft\u201d \u201c At once\u201d or not"
+    )
+    assert found.missing == ()
+
+
+def test_titles_and_what_there_is_to_choose_from_in_a_form_are_parted() -> None:
+    page = (
+        "<html><fieldset><legend>Language</legend>In <select><option>Danish</option><option selected>Dutch<optgroup>"
+        "<option>English</optgroup></select>!</fieldset></html>"
+    )
+    found = read_document(page.encode(), ManuscriptKind.HTML)
+    texts = ["Language In Danish Dutch English !"]
+    assert (found.texts, found.missing) == (texts, ())
 
 
 def test_pictures_without_an_address_are_described_too() -> None:

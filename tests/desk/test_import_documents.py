@@ -1,6 +1,7 @@
 """Documents of publishers imported: what is said of them, and what is in the book."""
 
 import hashlib
+import os
 import signal
 from collections.abc import Callable
 from io import BytesIO, StringIO
@@ -8,7 +9,7 @@ from pathlib import Path
 
 import pytest
 
-from braildesk import Session, Style
+from braildesk import Session, SessionEnded, Style
 from braildesk.desk.documents.kinds import ManuscriptKind
 from braildesk.desk.documents.options import ReadingOptions
 from braildesk.desk.drafts import Drafts
@@ -159,6 +160,62 @@ def test_a_report_has_all_places_and_the_terminal_a_few(book: Path) -> None:
         "The report can't be written to none/lost.txt: No such file or directory. Nothing was"
         " typed.\n",
     )
+
+
+@pytest.mark.parametrize("words", [(), ("--dry-run",)])
+def test_a_report_leaves_a_file_that_is_no_report(
+    book: Path, words: tuple[str, ...]
+) -> None:
+    Path("notes.txt").write_text("Typed by hand.\n")
+    Path("link.txt").symlink_to("notes.txt")
+    there = "is there already, and doesn't begin as a report does"
+    for name, its in (("notes.txt", there), ("link.txt", "is a link to notes.txt")):
+        assert put(book, "--report", name, *words) == Ran(
+            2,
+            "",
+            f"{name} {its}, so it was left as it is. Nothing was typed. Take another path for the"
+            " report.\n",
+        )
+    assert Path("notes.txt").read_text() == "Typed by hand.\n"
+    assert version(book) == 1
+
+
+def test_a_report_leaves_the_log_of_another_book(book: Path) -> None:
+    other = book.with_name("other.braildesk")
+    other.write_bytes(book.read_bytes())
+    with Session(other) as session:
+        session.add_paragraph("end", "en", "In the log alone.")
+        os.kill(session.pid, signal.SIGKILL)
+        with pytest.raises(SessionEnded):
+            session.version()
+    log = f"{other}-wal"
+    assert put(book, "--report", log) == Ran(
+        3,
+        "",
+        f"The report can't be written to {log}: the log of a book is there, which was left as it"
+        " is. Nothing was typed.\n",
+    )
+    assert prints(other) == ["In the log alone."]
+
+
+@pytest.mark.parametrize(
+    "text, pairs",
+    [("*One* two.\n", None), ("One two.\n", "two\ttoo\n"), ("One two.\n", None)],
+    ids=["document", "pairs", "text"],
+)
+def test_a_report_replaces_an_empty_file_and_an_older_report(
+    book: Path, text: str, pairs: str | None
+) -> None:
+    Path("lost.txt").touch()
+    words = ["--dry-run", "--report", "lost.txt"]
+    if pairs is not None:
+        Path("pairs.tsv").write_text(pairs)
+        words += ["--replace", "pairs.tsv"]
+    name = "text.md" if text.startswith("*") else "text.txt"
+    Path(name).write_text(text)
+    for _ in range(2):
+        assert scribe("import", book, name, *words, folder=book.parent).status == 0
+        assert Path("lost.txt").read_text()
 
 
 class Reader(StringIO):

@@ -22,13 +22,16 @@ from braildesk.desk.documents.kinds import (
     root_of,
     unpacked,
 )
+from braildesk.desk.documents.markdown_notes import AHEAD, BEFORE_NOTE
+from braildesk.desk.documents.markdown_tables import doubtful_rows
 from braildesk.desk.documents.markup import (
     BLOCKS,
+    PARTED,
     Tags,
     characters_of_page,
     field_words,
 )
-from braildesk.desk.documents.notes import BACK
+from braildesk.desk.documents.notes import leads_back
 from braildesk.desk.documents.package import Package
 from braildesk.desk.documents.reading import Loss, LossKind, Missing, plain, whole
 from braildesk.desk.documents.sheets import (
@@ -78,6 +81,7 @@ _FALLBACK = "{http://schemas.openxmlformats.org/markup-compatibility/2006}Fallba
 _TEXT = "{urn:oasis:names:tc:opendocument:xmlns:text:1.0}"
 _OFFICE = "{urn:oasis:names:tc:opendocument:xmlns:office:1.0}"
 _STYLE = "{urn:oasis:names:tc:opendocument:xmlns:style:1.0}"
+_SVG = "{urn:oasis:names:tc:opendocument:xmlns:svg-compatible:1.0}"
 _DOCX_TEXTS = re.compile(r"word/(document|footnotes|endnotes)\d*\.xml")
 _DOCX_EDGES = re.compile(r"word/(header|footer)\d*\.xml")
 _DOCX_DRAWINGS = re.compile(r"word/(charts/chart|diagrams/data)\d*\.xml")
@@ -89,6 +93,11 @@ _DELETED = (f"{_W}del", f"{_W}moveFrom")
 _ODT_PARTING = tuple(
     f"{_TEXT}{name}" for name in ("s", "tab", "line-break", "note-citation")
 )
+#: What isn't one word with what stands before and after it: readings of characters, and what pictures have.
+_ODT_APART = (
+    *(f"{_TEXT}ruby-{name}" for name in ("base", "text")),
+    *(f"{_SVG}{name}" for name in ("title", "desc")),
+)
 _ODT_DELETED = f"{_TEXT}deletion"
 #: Words that are shown where something holds, else an attribute alone has them.
 _ODT_HIDDEN = f"{_TEXT}hidden-text"
@@ -97,14 +106,24 @@ _NUMBER = re.compile(r"[\W\d_]*")
 #: The key of a note in Markdown and its first line, and what of a text there is no print: where links
 #: lead, and marks of emphasis and of code.
 _NOTE = re.compile(r"[ >]*\[\^([^]\s]+)\]:(.*)")
-_MARKUP = re.compile(r"\]\([^)\s]*\)|(?<!\w)_+|_+(?!\w)|[*`\\]")
+_MARKUP = re.compile(
+    # neither is looked for again from within itself
+    r"\]\((?:[^])\s]|\](?!\())*+\)|(?<!\w)_++|(?<!_)_++(?!\w)|[*`\\]"
+)
+#: What leads to a note, by its key.
+_LEADING = re.compile(r"\[\^([^][\s]+)\]")
 
-#: The key of a link in Markdown with what stands where its address does, and an address with its title.
-_KEY = re.compile(r" {0,3}\[(?!\^)([^][]+)\]:(.*)")
+#: The key of a link in Markdown with what stands where its address does, after what lists have before it; and
+#: an address with its title.
+_KEY = re.compile(rf"({AHEAD})\[(?!\^)([^][]+)\]:(.*)")
 _ADDRESS = re.compile(
-    r"""\s*(?:<[^<>]*>|\S*)(?:\s+(?:"[^"]*"|'[^']*'|\([^()]*\)))?(?:\s*\{[^{}]*\})?\s*"""
+    # blanks are taken all at once: of many, each number would be tried of each row of them
+    r"""\s*+(?:<[^<>]*>|\S*)(?:\s++(?:"[^"]*"|'[^']*'|\([^()]*\)))?(?:\s*+\{[^{}]*\})?\s*+"""
 )
 _IN_BRACKETS = re.compile(r"\[([^][]+)\]")
+#: What stands in a passage where a link to another part begins or ends: it may be the number of a note, which
+#: is parted from the word before it, or some letters of a word.
+_SEAM = "\ue0f2"
 
 
 @dataclass
@@ -172,22 +191,39 @@ def notes_of(text: str, keys: Collection[str]) -> list[str]:
     return [_MARKUP.sub(" ", each) for each in found]
 
 
+def keys_in_notes(text: str) -> set[str]:
+    """The keys of notes to which other notes of a text in Markdown lead: pandoc leaves those out, if
+    nothing else leads there, without a word."""
+    keys = {begun[1] for begun in map(_NOTE.match, text.split("\n")) if begun}
+    return {key for note in notes_of(text, keys) for key in _LEADING.findall(note)}
+
+
 def addresses_of(text: str) -> list[str]:
     """What a text in Markdown has where the address of a link stands, if it is no address or no link
     leads there: pandoc leaves that out without a word."""
     keys: list[tuple[str, str]] = []
     is_front = True
     for line in text.split("\n"):
-        key = _KEY.match(line) if is_front else None
-        keys += [(_folded(key[1]), key[2])] if key else []
-        is_front = bool(key) or not line.strip()
+        key = _KEY.match(line)
+        if key and (is_front or key[1].strip(" \t>")):
+            keys.append((key[2], key[3]))
+            is_front = True
+        else:
+            is_front = BEFORE_NOTE.fullmatch(line) is not None
     uses = Counter(map(_folded, _IN_BRACKETS.findall(text)))
-    uses.subtract(key for key, _ in keys)
-    return [
-        _MARKUP.sub(" ", words)
+    uses.subtract(_folded(key) for key, _ in keys)
+    unused = [f"{key} {words}" for key, words in keys if uses[_folded(key)] <= 0]
+    others = [
+        words
         for key, words in keys
-        if uses[key] <= 0 or not _ADDRESS.fullmatch(words)
+        if uses[_folded(key)] > 0 and not _ADDRESS.fullmatch(words)
     ]
+    return [_MARKUP.sub(" ", each) for each in (*unused, *others)]
+
+
+def rows_of(text: str) -> list[str]:
+    """The rows of tables in a text in Markdown that pandoc may leave cells out of, or whose words it may part."""
+    return [_MARKUP.sub(" ", row) for row in doubtful_rows(text)]
 
 
 def _folded(key: str) -> str:
@@ -204,17 +240,30 @@ def missing(passages: Iterable[str], texts: Iterable[str]) -> list[Missing]:
     left = Counter(tuple(_words(text)) for text in texts)
     others = []
     for passage in passages:
-        words = tuple(_words(passage))
-        if left[words] > 0:
-            left[words] -= 1
+        forms = _forms(passage)
+        words = next((each for each in forms if left[each] > 0), None)
+        if words is None:
+            others.append(forms)
         else:
-            others.append(words)
+            left[words] -= 1
     rest = _Rest(left)
-    unseen = [words for words in others if not rest.take(words)]
+    unseen = [forms for forms in others if not any(map(rest.take, forms))]
     there = Counter(word for word in rest.words if word is not None)
     return [
-        found for words in unseen for found in _missing(_parted(words, there), there)
+        found for forms in unseen for found in _missing(_likest(forms, there), there)
     ]
+
+
+def _forms(passage: str) -> list[tuple[str, ...]]:
+    """The words of a passage, and those that it has if its links are parted from words."""
+    forms = [tuple(_words(passage.replace(_SEAM, "")))]
+    return [*forms, tuple(_words(passage))] if _SEAM in passage else forms
+
+
+def _likest(forms: Iterable[Sequence[str]], there: Counter[str]) -> list[str]:
+    """The words of a passage in that form of which the fewest aren't there."""
+    parted = [_parted(words, there) for words in forms]
+    return min(parted, key=lambda words: sum(there[word] <= 0 for word in words))
 
 
 class _Rest:
@@ -447,7 +496,10 @@ def _odt_runs(element: Element, inner: list[Element]) -> Iterator[str]:
         elif child.tag not in (_ANNOTATION, f"{_OFFICE}binary-data"):
             if child.tag == _ODT_HIDDEN and not child.text:
                 yield f" {child.get(f'{_TEXT}string-value', '')} "
+            around = " " if child.tag in _ODT_APART else ""
+            yield around
             yield from _odt_runs(child, inner)
+            yield around
         yield child.tail or ""
 
 
@@ -489,7 +541,7 @@ def _of_epub(container: zipfile.ZipFile, found: Contents) -> None:
 
 
 def _first(texts: Sequence[str]) -> str:
-    return " ".join(" ".join(texts).split())[:_SHOWN]
+    return " ".join(" ".join(texts).replace(_SEAM, "").split())[:_SHOWN]
 
 
 _READERS = {
@@ -630,6 +682,8 @@ class _Html(Tags):
             self._back, self._open = tag, 1
         self._describe(tag, attrs)
         self._part(tag)
+        if tag == "a" and "#" in (dict(attrs).get("href") or ""):
+            self._add(_SEAM)
         if tag in ("rt", "rp", "rb", "rtc"):
             self._end_reading()
             is_within = tag == "rt" and self._tags["ruby"] > 0
@@ -651,6 +705,8 @@ class _Html(Tags):
         if not self._open:
             self._back = ""
         self._part(tag)
+        if tag == "a":
+            self._add(_SEAM)
         if tag in ("rt", "ruby"):
             self._end_reading()
 
@@ -659,13 +715,20 @@ class _Html(Tags):
             for address in imports_of(data):
                 self._add_sheet(address, "all")
             self._sheet.add(rules_of(data))
-        if not self._silent and not self._back:
-            texts = self._lists if self._in_list else self._texts
-            if self._reading == "begun" and data.strip():
-                # it is parted from the characters by a bracket
-                texts[-1].append(" ")
-                self._reading = "read"
-            texts[-1].append(data)
+        if self._reading == "begun" and data.strip() and self._is_print:
+            # it is parted from the characters by a bracket
+            self._add(" ")
+            self._reading = "read"
+        self._add(data)
+
+    @property
+    def _is_print(self) -> bool:
+        return not self._silent and not self._back
+
+    def _add(self, text: str) -> None:
+        """Adds to the text that is open, if it is print."""
+        if self._is_print:
+            (self._lists if self._in_list else self._texts)[-1].append(text)
 
     def _enter(self, tag: str, attributes: dict[str, str | None]) -> None:
         """Notes an element that is open from here on, or that links to a sheet."""
@@ -745,20 +808,23 @@ class _Html(Tags):
             self._texts.append([])
             self._lists.append(["\n"])
             self._back, self._open = "", 0
+        elif tag in PARTED:
+            self._add(" ")
 
 
 def _first_words(texts: Sequence[Sequence[str]]) -> list[str]:
     """The first words from each of some texts on, and none after the last one."""
     found = [""]
     for pieces in reversed(texts):
-        found.append(plain("".join(pieces))[:_SHOWN] or found[-1])
+        words = plain("".join(pieces).replace(_SEAM, ""))[:_SHOWN]
+        found.append(words or found[-1])
     return found[::-1]
 
 
 def _is_back(attributes: dict[str, str | None]) -> bool:
     """Whether an element leads from a note back to its number, so that its text is no print."""
     said = (attributes.get(name) or "" for name in ("class", "role", "epub:type"))
-    return not BACK.isdisjoint(" ".join(said).split())
+    return leads_back(" ".join(said).split())
 
 
 def _is_styled(attributes: dict[str, str | None]) -> bool:

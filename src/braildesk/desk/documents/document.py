@@ -20,7 +20,12 @@ from braildesk.desk.documents.kinds import (
     WhyNot,
     repacked,
 )
-from braildesk.desk.documents.markdown_notes import with_marks, without_marks
+from braildesk.desk.documents.markdown_front import with_one_front
+from braildesk.desk.documents.markdown_notes import (
+    repeated,
+    with_marks,
+    without_marks,
+)
 from braildesk.desk.documents.markdown_tables import check_tables
 from braildesk.desk.documents.markup import characters_of_page, characters_of_text
 from braildesk.desk.documents.notes import with_notes
@@ -108,11 +113,12 @@ def _read(
     data: bytes, kind: ManuscriptKind, own: Contents, reading: ReadingOptions
 ) -> Manuscript:
     """What pandoc reads, compared with what the file has."""
-    readable, repeated = _readable(data, kind)
+    readable, unmarked = _readable(data, kind)
     tree, left_out = pandoc.tree(readable, kind)
     try:
         if kind is ManuscriptKind.MARKDOWN:
             tree = without_marks(tree)
+            unmarked = repeated(tree, unmarked)
         noted = with_notes(tree)
         beside = said_beside(tree) if kind is ManuscriptKind.MARKDOWN else []
     except RecursionError as fault:
@@ -129,26 +135,27 @@ def _read(
     passages = own.passages
     if kind is ManuscriptKind.MARKDOWN:
         text = data.decode()
-        passages = [*passages, *contents.notes_of(text, left_out)]
-        passages += contents.addresses_of(text)
+        keys = left_out | contents.keys_in_notes(text)
+        passages = [*passages, *contents.notes_of(text, keys)]
+        passages += contents.addresses_of(text) + contents.rows_of(text)
     missing = contents.missing(passages, [part.text for part in found.parts])
     missing += [Missing(text, "", "") for text in beside]
     parts = tuple(each for part in found.parts for each in short_enough(part))
     losses = (*found.losses, *own.numbers, *_too_long(found.parts), *own.losses)
-    losses += tuple(repeated)
+    losses += tuple(unmarked)
     return Manuscript(kind, parts, losses, tuple(missing))
 
 
 def _readable(data: bytes, kind: ManuscriptKind) -> tuple[bytes, list[Loss]]:
-    """A document as pandoc reads all of it, and the notes that are repeated."""
+    """A document as pandoc reads all of it, and the lines that may be notes which are repeated."""
     if kind is ManuscriptKind.EPUB:
         return pages.readable_book(data), []
     if kind is ManuscriptKind.HTML:
         return pages.readable_page(data.decode()).encode(), []
     if kind is ManuscriptKind.MARKDOWN:
-        text, repeated = with_marks(data.decode())
+        text, unmarked = with_marks(with_one_front(data.decode()))
         check_tables(text)
-        return text.encode(), repeated
+        return text.encode(), unmarked
     return data, []
 
 

@@ -99,6 +99,9 @@ class NotRead(UnreadableText):
 
 #: How many bytes of the text of a container are read at most, unpacked.
 MOST_BYTES = 256 << 20
+#: How many signs that begin a tag these have at most: each element takes time, and memory many times
+#: its bytes.
+MOST_TAGS = 16 << 20
 #: Pictures, sounds and fonts, which aren't unpacked.
 _MEDIA = frozenset(
     ".png .jpg .jpeg .gif .emf .wmf .tif .tiff .bmp .webp .mp3 .m4a .mp4 .ogg .ttf .otf .woff .woff2"
@@ -132,6 +135,7 @@ _HIDDEN_FONTS = frozenset(
     {"http://www.idpf.org/2008/embedding", "http://ns.adobe.com/pdf/enc#RC"}
 )
 _ENCRYPTED_FLAG, _UTF8_FLAG = 1, 0x800
+_TAG = b"<"
 #: The parts by which a container is known, of which a folder around all others is found.
 _KNOWN = ("mimetype", "META-INF/container.xml", "[Content_Types].xml")
 
@@ -210,8 +214,12 @@ def repacked(data: bytes) -> bytes:
         named = [_usual_name(each.filename, each.flag_bits) for each in entries]
         folder = _folder_around(named)
         names = [each.removeprefix(folder) for each in named]
-        is_encrypted = any(each.flag_bits & _ENCRYPTED_FLAG for each in entries)
-        if is_encrypted or names == [each.filename for each in entries]:
+        if any(each.flag_bits & _ENCRYPTED_FLAG for each in entries):
+            return data
+        _judge_tags(container)
+        # one of many parts with one name would be read for each of them
+        is_each_one = len({*names}) == len(names)
+        if is_each_one and names == [each.filename for each in entries]:
             return data
         made = BytesIO()
         with ZipFile(made, "w") as other:
@@ -222,6 +230,24 @@ def repacked(data: bytes) -> bytes:
                 part = b"" if is_uncounted else part_of(container, entry.filename)
                 other.writestr(name, part)
     return made.getvalue()
+
+
+def _judge_tags(container: "ZipFile") -> None:
+    """`NoDocument` if a container has more tags than any manuscript."""
+    from zipfile import BadZipFile  # as above
+
+    # of parts with one name the last one counts, as where they are read
+    sizes = {each.filename: each.file_size for each in container.infolist()}
+    texts = [name for name in sizes if not is_media(name)]
+    if sum(sizes[name] for name in texts) <= MOST_TAGS:
+        return
+    count = 0
+    for name in texts:
+        # what is damaged may be a part that nobody reads
+        with suppress(BadZipFile, *_FAULTS):
+            count += part_of(container, name).count(_TAG)
+    if count > MOST_TAGS:
+        raise NoDocument(WhyNot.TOO_LARGE)
 
 
 def _usual_name(name: str, flags: int) -> str:
@@ -254,13 +280,16 @@ def part_of(container: "ZipFile", name: str) -> bytes:
 
 
 def root_of(part: bytes) -> "Element":
-    """The elements of a part in XML; `NoDocument` if they stand too deeply within each other.
+    """The elements of a part in XML; `NoDocument` if they are too many, or stand too deeply within
+    each other.
 
     What is asked of each with all that it has would take for ever.
     """
     # imported here, since a text needs none of it
     from xml.etree import ElementTree
 
+    if part.count(_TAG) > MOST_TAGS:
+        raise NoDocument(WhyNot.TOO_LARGE)
     root = ElementTree.fromstring(part)
     row = [root]
     for _ in range(_LEVELS):
@@ -296,8 +325,7 @@ def _judge_open(
     """`NoDocument` if the parts of a container are encrypted each by itself."""
     manifest, rights = "META-INF/manifest.xml", "META-INF/encryption.xml"
     if kind is ManuscriptKind.ODT and manifest in names:
-        root = root_of(part_of(container, manifest))
-        if next(root.iterfind(".//{*}encryption-data"), None) is not None:
+        if _is_encrypted(part_of(container, manifest)):
             raise NoDocument(WhyNot.ENCRYPTED)
     if kind is ManuscriptKind.EPUB and rights in names:
         root = root_of(part_of(container, rights))
@@ -305,6 +333,22 @@ def _judge_open(
             method = data.find("{*}EncryptionMethod")
             if method is None or method.get("Algorithm") not in _HIDDEN_FONTS:
                 raise NoDocument(WhyNot.COPY_PROTECTED)
+
+
+def _is_encrypted(manifest: bytes) -> bool:
+    """Whether the list of the parts of a text in ODT says so, of which LibreOffice reads some without an
+    address for their prefix."""
+    # imported here, since a text needs none of it
+    from xml.etree.ElementTree import ParseError
+    from xml.parsers.expat import errors
+
+    try:
+        found = root_of(manifest).iterfind(".//{*}encryption-data")
+        return next(found, None) is not None
+    except ParseError as fault:
+        if fault.code != errors.codes[errors.XML_ERROR_UNBOUND_PREFIX]:
+            raise
+    return b"encryption-data" in manifest
 
 
 def _kind_of_ole(data: bytes) -> ManuscriptKind:

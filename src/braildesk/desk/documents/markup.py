@@ -6,6 +6,7 @@ from collections.abc import Iterable, Mapping
 from contextlib import suppress
 from html.parser import HTMLParser
 
+from braildesk.desk.documents.kinds import NoDocument, WhyNot
 from braildesk.desk.manuscript import decoded
 
 #: Where a page says in what it is encoded; else its front does, or it is of an older system.
@@ -36,18 +37,49 @@ BLOCKS = frozenset(
     " source style summary svg switch synopsis table task tbody td textarea tfoot th"
     " thead tip title tr ul video warning".split()
 )
+#: What parts words and no paragraphs: what stands in a list to choose from, and the title of some fields.
+PARTED = frozenset({"legend", "optgroup", "option"})
 #: The fields of forms in which no words are seen.
 _WORDLESS = frozenset("hidden checkbox radio password file color range image".split())
 
 
 class Tags(HTMLParser):
-    """What finds the tags of a page, whatever their attributes have."""
+    """What finds the tags of a page, whatever their attributes have.
+
+    `NoDocument` if nothing ends many of them: each is looked for up to the end of the page.
+    """
+
+    #: How many tags and comments of a page nothing may end.
+    _MOST_OPEN = 20
+    _open_count = 0
+
+    def parse_starttag(self, i: int) -> int:
+        return self._ended(super().parse_starttag(i))
+
+    def parse_endtag(self, i: int) -> int:
+        return self._ended(super().parse_endtag(i))
+
+    def parse_comment(self, i: int, report: int = 1) -> int:
+        return self._ended(super().parse_comment(i, bool(report)))
+
+    def parse_pi(self, i: int) -> int:
+        return self._ended(super().parse_pi(i))
+
+    def parse_html_declaration(self, i: int) -> int:
+        return self._ended(super().parse_html_declaration(i))
 
     def parse_marked_section(self, i: int, report: int = 1) -> int:
         # the reader of the library fails at those that it doesn't know
         if self.rawdata.startswith("<![CDATA[", i):
             return super().parse_marked_section(i, bool(report))
         return self.parse_bogus_comment(i)
+
+    def _ended(self, end: int) -> int:
+        """Where a tag ends, counted if that is nowhere."""
+        self._open_count += end < 0
+        if self._open_count > self._MOST_OPEN:
+            raise NoDocument(WhyNot.DAMAGED)
+        return end
 
 
 def field_words(tag: str, attributes: Mapping[str, str | None]) -> str:

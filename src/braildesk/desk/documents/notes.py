@@ -2,26 +2,33 @@
 
 A link is the number of a note if it is said to be one (by its class or role), or if it has nothing
 but a number or a sign and leads to a later paragraph that begins with a link of the same. The paragraphs
-of the note are taken from where they stand, without their number and the link back. Of a number whose
-note isn't found, that is noted.
+of the note are taken from where they stand, without their number and the link back; Texinfo puts them
+below a heading that is the number. Of a number whose note isn't found, that is noted.
 """
 
 import re
-from collections.abc import Iterator, Sequence
+from collections.abc import Iterable, Iterator, Sequence
 from dataclasses import dataclass
 from typing import Any
 
 from braildesk.desk.documents.tree import UNKNOWN_NOTE, Node
 
 _NUMBERS = frozenset(
-    "footnote-ref footnote-reference footnote noteref doc-noteref endnote-ref fnref fnanchor".split()
+    "footnote-ref footnote-reference footnote noteref doc-noteref endnote-ref fnref fnanchor"
+    " sdfootnoteanc sdendnoteanc footref".split()
 )
+_NUMBER_IN_ORG = "footref"
 #: What says of a link or a piece of text that it leads from a note back to its number.
-BACK = frozenset(
+_BACK = frozenset(
     "footnote-back fn-backref doc-backlink footnote-backref backlink".split()
 )
 #: What says of a division that it is one note.
-_NOTES = frozenset("footnote endnote note doc-footnote doc-endnote rearnote".split())
+_NOTES = frozenset(
+    "footnote endnote note doc-footnote doc-endnote rearnote footdef".split()
+)
+#: What names a division that is one note, as Word and LibreOffice write them.
+_NOTE_NAME = re.compile("(ftn|edn|sdfootnote|sdendnote)[0-9]+")
+_HEAD_NAME = re.compile("(.*[^A-Za-z])?FOOT[0-9]+")
 #: What a link has that is the number of a note though nothing says so.
 _BARE = re.compile(r"\d{1,4}|[*†‡§]{1,4}")
 _MARKS = " \u00a0[](){}"
@@ -40,14 +47,14 @@ class _Place:
 
 def with_notes(tree: Node) -> Node:
     """The tree with each link that is the number of a note made that note."""
-    blocks = tree["blocks"]
-    links = [(n, node) for n, node in enumerate(_nodes(blocks)) if _is_inner(node)]
+    blocks = _headed(tree["blocks"])
+    links = [(n, node) for n, node in enumerate(nodes(blocks)) if _is_inner(node)]
     wanted = {_target(link) for _, link in links}
-    asides = [node for node in _nodes(blocks) if _is_aside(node)]
+    asides = [node for node in nodes(blocks) if _is_aside(node)]
     if not wanted and not asides:
         return tree
     places = dict(_places(blocks, wanted))
-    order = {name: n for n, each in enumerate(_nodes(blocks)) if (name := _name(each))}
+    order = {name: n for n, each in enumerate(nodes(blocks)) if (name := _name(each))}
     numbers = {
         id(link)
         for n, link in links
@@ -62,13 +69,59 @@ def with_notes(tree: Node) -> Node:
     return {**tree, "blocks": _Taking(places, numbers, taken, named).of(blocks)}
 
 
+def _headed(blocks: list[Node]) -> Any:
+    """Some blocks in which each note that stands below a heading that is its number is a division."""
+    links = [node for node in nodes(blocks) if _is_inner(node)]
+    pairs = {(_name(link), _target(link)) for link in links}
+    # such a number and that of the text lead to each other
+    heads = {
+        id(node)
+        for node in nodes(blocks)
+        if (link := _lone_link(node)) and (_target(link), _name(link)) in pairs
+    }
+    return _divided(blocks, heads) if heads else blocks
+
+
+def _lone_link(block: Node) -> Node | None:
+    """The number of a note, as Texinfo names it, that is all that a heading has, or a text of a block."""
+    if block.get("t") not in ("Header", "Para", "Plain"):
+        return None
+    inlines = block["c"][2] if block["t"] == "Header" else block["c"]
+    found = [each for each in inlines if each["t"] not in ("Space", "SoftBreak")]
+    # the number of a part may lead back to the contents too
+    is_lone = len(found) == 1 and _is_inner(found[0])
+    return found[0] if is_lone and _HEAD_NAME.fullmatch(_name(found[0])) else None
+
+
+def _divided(value: Any, heads: set[int]) -> Any:
+    """A part of the tree with a division of each of some headings and what stands below it."""
+    if isinstance(value, dict):
+        return {key: _divided(each, heads) for key, each in value.items()}
+    if not isinstance(value, list):
+        return value
+    divided: list[Any] = []
+    below = divided
+    for each in value:
+        if id(each) in heads and (link := _lone_link(each)):
+            below = [{"t": "Plain", "c": [link]}]
+            divided.append({"t": "Div", "c": [[_name(link), [], []], below]})
+            continue
+        if isinstance(each, dict) and each.get("t") in ("Header", "HorizontalRule"):
+            below = divided
+        below.append(_divided(each, heads))
+    return divided
+
+
 def _is_inner(node: Node) -> bool:
     """Whether a node is a link to another part of the document that isn't said to lead back."""
-    return (
-        node.get("t") == "Link"
-        and node["c"][2][0].startswith("#")
-        and BACK.isdisjoint(_said_of(node))
-    )
+    is_link = node.get("t") == "Link" and node["c"][2][0].startswith("#")
+    return is_link and not leads_back(_said_of(node))
+
+
+def leads_back(said: Iterable[str]) -> bool:
+    """Whether what is said of something is that it leads back to a number; Org says so of that too."""
+    found = frozenset(said)
+    return not _BACK.isdisjoint(found) and _NUMBER_IN_ORG not in found
 
 
 def _is_number(link: Node) -> bool:
@@ -107,7 +160,7 @@ def _name(node: Node) -> str:
 
 def _label(link: Node) -> str:
     """The number of a note as it is written, without what stands around it."""
-    return "".join(_text(link["c"][1])).strip(_MARKS)
+    return "".join(texts(link["c"][1])).strip(_MARKS)
 
 
 def _said_of(node: Node) -> Iterator[str]:
@@ -119,7 +172,7 @@ def _said_of(node: Node) -> Iterator[str]:
             yield from value.split()
 
 
-def _nodes(value: Any) -> Iterator[Node]:
+def nodes(value: Any) -> Iterator[Node]:
     """All nodes of a tree, from its front on."""
     waiting = [value]
     while waiting:
@@ -133,7 +186,7 @@ def _nodes(value: Any) -> Iterator[Node]:
 
 def _links(inlines: Sequence[Node]) -> Iterator[Node]:
     """The links with which a text begins, before any other word."""
-    for node in _nodes(inlines):
+    for node in nodes(inlines):
         if node.get("t") == "Link":
             yield node
         elif _is_word(node):
@@ -143,12 +196,12 @@ def _links(inlines: Sequence[Node]) -> Iterator[Node]:
 def _is_word(node: Node) -> bool:
     """Whether a node is text that is more than a bracket."""
     is_text = node.get("t") in ("Str", "Code", "Math", "Image")
-    return is_text and bool("".join(_text(node)).strip(_MARKS))
+    return is_text and bool("".join(texts(node)).strip(_MARKS))
 
 
-def _text(value: Any) -> Iterator[str]:
+def texts(value: Any) -> Iterator[str]:
     """The words of a part of the tree, in which a picture is a sign."""
-    for node in _nodes(value):
+    for node in nodes(value):
         match node.get("t"):
             case "Str":
                 yield node["c"]
@@ -191,13 +244,13 @@ def _division(node: Node, wanted: set[str]) -> Iterator[tuple[str, _Place]]:
         return
     if node["c"][0][0] in wanted:
         yield node["c"][0][0], place
-    if not _NOTES.isdisjoint(_said_of(node)):
+    if not _NOTES.isdisjoint(_said_of(node)) or _NOTE_NAME.fullmatch(node["c"][0][0]):
         yield from _named(wanted, place)
 
 
 def _named(wanted: set[str], place: _Place) -> Iterator[tuple[str, _Place]]:
     """A place by each name that stands at its front."""
-    for node in _nodes(place.front):
+    for node in nodes(place.front):
         if (name := _name(node)) in wanted and name:
             yield name, place
         if _is_word(node):
@@ -293,7 +346,7 @@ class _Taking:
 
     def _again(self, span: Node) -> Node:
         """What stands in place of the number of a note that stands elsewhere in the line."""
-        link = next((each for each in _nodes(span["c"][1]) if _is_inner(each)), None)
+        link = next((each for each in nodes(span["c"][1]) if _is_inner(each)), None)
         if link is None:
             return span
         if (name := _target(link)) not in self._asides:
@@ -366,7 +419,7 @@ def _without_number(blocks: list[Node], target: str, label: str) -> list[Node]:
         inlines = [*inlines[0]["c"][1], *inlines[1:]]
     number = re.compile(rf"[\[({{]?\s*({re.escape(label)})?\s*[\])}}]?[.:)]?")
     for count in range(min(len(inlines), _PIECES), 0, -1):
-        if number.fullmatch("".join(_text(inlines[:count])).strip()):
+        if number.fullmatch("".join(texts(inlines[:count])).strip()):
             inlines = inlines[count:]
             break
     return [{**first, "c": inlines}, *rest]
@@ -385,6 +438,6 @@ def _is_back(value: Any) -> bool:
     """Whether a part of a note leads back: it is said to, or is a link without a word."""
     if not isinstance(value, dict) or value.get("t") not in ("Link", "Span"):
         return False
-    if not BACK.isdisjoint(_said_of(value)):
+    if leads_back(_said_of(value)):
         return True
-    return _is_inner(value) and not re.search(r"\w", "".join(_text(value["c"][1])))
+    return _is_inner(value) and not re.search(r"\w", "".join(texts(value["c"][1])))

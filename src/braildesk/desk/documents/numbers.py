@@ -184,10 +184,10 @@ def _in_codes(root: Element) -> frozenset[int]:
 
 
 def _is_left_out(name: str, attributes: Sequence[str]) -> bool:
-    """Whether an element is for older programs, has pandoc put a paragraph before another table, or says
-    how many columns one has, which is said anew."""
+    """Whether an element is for older programs, has pandoc put a paragraph before another table, or a row
+    before those above it, or says how many columns a table has, which is said anew."""
     is_title = name == f"{_W}pStyle" and "Caption" in attributes
-    return is_title or name in (_FALLBACK, f"{_W}tblGrid")
+    return is_title or name in (_FALLBACK, f"{_W}tblGrid", f"{_W}tblHeader")
 
 
 @dataclass(frozen=True, slots=True)

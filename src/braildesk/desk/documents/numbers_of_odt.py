@@ -36,13 +36,14 @@ _ALONE = f"{_TEXT}numbered-paragraph"
 _AROUND = frozenset({_LIST, *_ITEMS, _ALONE, f"{_TEXT}section"})
 _DELETED, _NOTE = f"{_TEXT}tracked-changes", f"{_TEXT}note-body"
 _WHOLE_NOTE, _NOTE_AGAIN = f"{_TEXT}note", f"{_TEXT}note-ref"
-#: What a text computes, and shows as it was last: pandoc leaves it out.
+#: What a text computes, and shows as it was last, which pandoc leaves out, with places to be filled in, whose
+#: brackets it does.
 _FIELDS = frozenset(
     f"{_TEXT}{name}"
     for name in "author-initials author-name chapter conditional-text creation-date creation-time creator"
     " database-display date description editing-cycles editing-duration expression file-name"
     " initial-creator keywords measure modification-date modification-time page-continuation"
-    " page-count page-number page-variable-get paragraph-count print-date print-time printed-by"
+    " page-count page-number page-variable-get paragraph-count placeholder print-date print-time printed-by"
     " sender-city sender-company sender-country sender-email sender-fax sender-firstname sender-initials"
     " sender-lastname sender-phone-private sender-phone-work sender-position sender-postal-code"
     " sender-state-or-province sender-street sender-title subject table-formula template-name text-input"

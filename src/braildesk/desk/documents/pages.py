@@ -2,10 +2,10 @@
 
 pandoc drops the names of paragraphs and terms, what fields of forms show, and the description of a
 picture that has a caption or no address. It doesn't know where an aside ends, nor that a cell ends where
-the next one begins, nor that a link leads to another folder of a book in EPUB, and leaves out the title
-pages of one, and each CR, also where no LF follows. It takes templates for print, and parts no characters
-from their reading: that gets brackets, which print doesn't need. A page of a book that isn't UTF-8 is
-written so.
+the next one begins, nor that a link leads to another folder of a book in EPUB, reads no page with keys
+that nothing ends, and leaves out the title pages of a book, and each CR, also where no LF follows. It
+takes templates for print, and parts no characters from their reading: that gets brackets, which print
+doesn't need. A page of a book that isn't UTF-8 is written so.
 """
 
 import re
@@ -22,6 +22,7 @@ from zipfile import ZipFile
 from braildesk.desk.documents.kinds import is_media, part_of, unpacked
 from braildesk.desk.documents.markup import (
     BLOCKS,
+    PARTED,
     Tags,
     characters_of_page,
     field_words,
@@ -32,10 +33,20 @@ from braildesk.desk.documents.table_places import Places, TableSize
 from braildesk.desk.manuscript import UnreadableText
 
 _LINE_END = re.compile(r"\r\n?")
+#: What begins as a character does that is written by its number, and what is none, or ends without a sign:
+#: after two of these the reader of the library takes the rest of a page for print.
+_BY_NUMBER = re.compile("&#(?:([0-9]+)(?=[a-fA-F])|(?![0-9]|[xX][0-9a-fA-F]))")
 _TITLE_PAGE = re.compile(r"""(epub:type\s*=\s*["'][^"']*)titlepage""")
 #: The folders in a link to another page of the same book.
 _FOLDERS = re.compile(r"""(\shref\s*=\s*["'])[^"'#:?<>]*/(([^"'#:?<>/]+)#)""")
-_DIVISIONS = frozenset({"aside", "figure", "figcaption"})
+#: Elements that are written as others. Of those within a line pandoc reads no page if a block ends them.
+_WRITTEN = {
+    **dict.fromkeys(("aside", "figure", "figcaption"), "div"),
+    **dict.fromkeys(("dfn", "kbd", "mark", "q"), "span"),
+}
+#: What shows its marks, and these: of one within another they are other ones.
+_QUOTATION = "q"
+_MARKS = (("\u201c", "\u201d"), ("\u2018", "\u2019"))
 #: What says how wide columns are, after which pandoc leaves out cells of columns that it doesn't name.
 _COLUMNS = frozenset({"col", "colgroup"})
 #: The parts of a table, by how deep they are in it.
@@ -107,7 +118,7 @@ class _Rewriting(Tags):
         self, page: str, places: Places, counts: Mapping[str, int] | None = None
     ) -> None:
         super().__init__(convert_charrefs=False)
-        self._page = page
+        self._page = page = _BY_NUMBER.sub(_ended, page)
         self._counts = counts
         self._fronts = [0, *(end.end() for end in re.finditer("\n", page))]
         self._pieces: list[str] = []
@@ -123,6 +134,8 @@ class _Rewriting(Tags):
         self._tables: list[list[str]] = []
         self._sizes: list[TableSize] = []
         self._places = places
+        #: How many quotations are open.
+        self._quotations = 0
         #: Where the templates begin that are open.
         self._templates: list[int] = []
 
@@ -140,9 +153,14 @@ class _Rewriting(Tags):
         self._is_in_lines |= tag == _LINES
         self._begin_part(tag)
         self._measure(tag, dict(attrs))
+        if tag in PARTED:
+            self._put(self._start(), self._start(), " ")
         after = ""
         if tag in ("p", "dt") and (name := dict(attrs).get("id")):
             after = f'<span id="{escape(name)}"></span>'
+        if tag == _QUOTATION:
+            after = _MARKS[self._quotations % 2][0]
+            self._quotations += 1
         self._rewrite(tag, attrs, after + self._before_reading(tag))
 
     def handle_startendtag(self, tag: str, attrs: list[tuple[str, str | None]]) -> None:
@@ -157,12 +175,23 @@ class _Rewriting(Tags):
             self._end_reading()
             self._is_bare &= tag != _RUBY
         stop = self._page.find(">", start) + 1 or len(self._page)
-        if tag in _DIVISIONS:
-            self._put(start + len("</"), start + len("</") + len(tag), "div")
+        if tag in PARTED:
+            self._put(start, start, " ")
+        # a block ends those that nothing ended in it
+        for _ in range(self._quotations if tag in BLOCKS else tag == _QUOTATION):
+            self._end_quotation()
+        if tag in _WRITTEN:
+            name = start + len("</")
+            self._put(name, name + len(tag), _WRITTEN[tag])
         elif tag in _COLUMNS:
             self._put(start, stop, "")
         elif tag == _TEMPLATE and self._templates:
             self._put(self._templates.pop(), stop, "")
+
+    def _end_quotation(self) -> None:
+        if self._quotations:
+            self._quotations -= 1
+            self._put(self._start(), self._start(), _MARKS[self._quotations % 2][1])
 
     def _begin_part(self, tag: str) -> None:
         """Ends the parts of a table that end where another begins, and notes that one."""
@@ -233,8 +262,8 @@ class _Rewriting(Tags):
         self, tag: str, attrs: list[tuple[str, str | None]], after: str
     ) -> None:
         found = written = self.get_starttag_text() or ""
-        if tag in _DIVISIONS:
-            written = f"<div{written[1 + len(tag) :]}"
+        if tag in _WRITTEN:
+            written = f"<{_WRITTEN[tag]}{written[1 + len(tag) :]}"
         if tag in _COLUMNS:
             written = ""
         if tag in _CELLS and "colspan" in dict(attrs):
@@ -272,6 +301,11 @@ class _Rewriting(Tags):
             return
         self._pieces += (self._page[self._done : start], written)
         self._done = stop
+
+
+def _ended(begun: re.Match[str]) -> str:
+    """A character by its number with the sign that ends it, or signs that are print."""
+    return f"&#{begun[1]};" if begun[1] else "&amp;#"
 
 
 def _width(attributes: Mapping[str, str | None]) -> int:

@@ -27,8 +27,9 @@ from braildesk.desk.documents.kinds import (
 )
 from braildesk.desk.manuscript import UnreadableText
 
-#: How many seconds a document may take by the clock.
-_SECONDS = 120
+#: How many seconds a document may take by the clock: more than all of those of a processor last where
+#: two dozen other programs want it, so that only what waits for something that never comes takes as long.
+_SECONDS = 3_600
 #: How many seconds of a processor one may take at most; and pandoc for a small one, and for how many
 #: bytes one more: it takes hours for a few brackets that nothing closes.
 _MOST_SECONDS, _LEAST_SECONDS, _BYTES_A_SECOND = 120, 20, 10_000
@@ -43,6 +44,16 @@ _FROM = {ManuscriptKind.EPUB: "epub-epub_html_exts-raw_html"}
 _FRONT = b"---"
 _WITHOUT_FRONT = "markdown-yaml_metadata_block"
 _OFFICE = ("soffice", "libreoffice")
+#: What LibreOffice is told of itself: pictures to which a document links, in other files or on the network,
+#: aren't fetched.
+_NO_LINKS = """\
+<?xml version="1.0" encoding="UTF-8"?>
+<oor:items xmlns:oor="http://openoffice.org/2001/registry">
+<item oor:path="/org.openoffice.Office.Common/Security/Scripting">
+<prop oor:name="BlockUntrustedRefererLinks" oor:op="fuse"><value>true</value></prop>
+</item>
+</oor:items>
+"""
 #: What pandoc says of the key of a note that it leaves out, or of one that two notes have.
 _LEFT_OUT = re.compile(
     r"(?:Note with key|Duplicate note reference) '(.+?)' (?:defined )?at "
@@ -97,8 +108,11 @@ def as_docx(data: bytes, kind: ManuscriptKind) -> bytes:
     with tempfile.TemporaryDirectory() as folder:
         source = Path(folder, f"manuscript.{kind.value}")
         source.write_bytes(data)
-        profile = Path(folder, "profile").as_uri()
-        words = [program, f"-env:UserInstallation={profile}", "--headless"]
+        profile = Path(folder, "profile")
+        settings = profile / "user" / "registrymodifications.xcu"
+        settings.parent.mkdir(parents=True)
+        settings.write_text(_NO_LINKS, encoding="utf-8")
+        words = [program, f"-env:UserInstallation={profile.as_uri()}", "--headless"]
         words += ["--convert-to", "docx", "--outdir", f"{folder}/made", str(source)]
         _run("LibreOffice", words, None, _MOST_SECONDS)
         try:

@@ -1,7 +1,7 @@
 """The tables of a text in ODT: their heads, and the places of cells that go on over several rows.
 
-pandoc leaves out the rows of a head, and each cell that another one covers, so that those after it
-would stand under another head.
+pandoc leaves out the rows of a head, each cell that another one covers, and all but one of empty cells
+that are written once, so that those after it would stand under another head.
 """
 
 from bisect import bisect_left
@@ -13,6 +13,7 @@ from braildesk.desk.documents.table_places import Places, TableSize
 
 _TABLE = "{urn:oasis:names:tc:opendocument:xmlns:table:1.0}"
 _TEXT = "{urn:oasis:names:tc:opendocument:xmlns:text:1.0}"
+_DRAWING = "urn:oasis:names:tc:opendocument:xmlns:drawing:1.0"
 _ROW, _CELL = f"{_TABLE}table-row", f"{_TABLE}table-cell"
 #: What stands in place of cells that another one covers.
 COVERED = f"{_TABLE}covered-table-cell"
@@ -63,6 +64,9 @@ class Spans:
                         begun[column] = height
                         self._note(LossKind.SPAN, cell)
                 column = stop
+            for cell, count in _repeated(row):
+                size.add_empty(count)
+                self.ahead[id(cell)] = _PLACE * count
             going_on = {each: left - 1 for each, left in going_on.items()} | begun
             going_on = {each: left for each, left in going_on.items() if left > 1}
 
@@ -84,6 +88,24 @@ def _rows(table: Element) -> Iterator[Element]:
             yield child
         elif child.tag in AROUND_ROWS:
             yield from _rows(child)
+
+
+def _repeated(row: Element) -> Iterator[tuple[Element, int]]:
+    """The empty cells of a row before others that stand for several, and for how many more than one."""
+    is_at_end = True
+    for cell in reversed(row):
+        if cell.tag not in (_CELL, COVERED):
+            continue
+        if not _is_empty(cell):
+            is_at_end = False
+        elif cell.tag == _CELL and not is_at_end:
+            yield cell, _count(cell, "number-columns-repeated") - 1
+
+
+def _is_empty(cell: Element) -> bool:
+    """Whether a cell has neither text nor a picture."""
+    has_text = any(text.strip() for text in cell.itertext())
+    return not has_text and not any(_DRAWING in each.tag for each in cell.iter())
 
 
 def _count(cell: Element, name: str) -> int:

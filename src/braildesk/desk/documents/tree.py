@@ -500,11 +500,12 @@ def _numbered(number: int, attributes: Sequence[Any]) -> str:
     """The number of an item as it stands in print."""
     _, style, delimiter = attributes
     match style["t"]:
-        case "LowerAlpha" | "UpperAlpha":
+        case "LowerAlpha" | "UpperAlpha" if number > 0:
             shown = letters(number)
-        case "LowerRoman" | "UpperRoman":
+        case "LowerRoman" | "UpperRoman" if 0 < number <= _MOST_ROMAN:
             shown = roman(number)
         case _:
+            # pages show what isn't written so in digits
             shown = str(number)
     if style["t"].startswith("Lower"):
         shown = shown.lower()
@@ -525,6 +526,8 @@ def letters(number: int) -> str:
     return shown
 
 
+#: The greatest number that is written on pages as Rome wrote it.
+_MOST_ROMAN = 3_999
 _ROMAN = (
     (1000, "M"), (900, "CM"), (500, "D"), (400, "CD"), (100, "C"), (90, "XC"), (50, "L"),
     (40, "XL"), (10, "X"), (9, "IX"), (5, "V"), (4, "IV"), (1, "I"),

@@ -2,15 +2,19 @@
 
 These are the readings of characters, which stand above them, and the boxes of forms: older ones, which
 have nothing in the text, and those of newer ones that are symbols of a font. pandoc knows no emphasis
-of whole paragraphs either, and no cells of a table of which nothing says how many columns it has.
+of whole paragraphs either, no cells of a table of which nothing says how many columns it has, and not
+that a row may begin at a later column than others.
 """
 
 import re
-from collections.abc import Iterator, Mapping
+from bisect import bisect_right
+from collections.abc import Iterator, Mapping, Sequence
+from itertools import accumulate
 from xml.etree.ElementTree import Element
 from xml.sax.saxutils import escape
 
 from braildesk.desk.documents.reading import Loss, LossKind, plain, whole
+from braildesk.desk.documents.table_places import Places
 
 _W = "{http://schemas.openxmlformats.org/wordprocessingml/2006/main}"
 _W14 = "{http://schemas.microsoft.com/office/word/2010/wordml}"
@@ -134,13 +138,49 @@ def _symbols(root: Element) -> dict[int, str]:
 
 
 def _grids(root: Element) -> Iterator[tuple[int, str]]:
-    """The columns of each table, by the identity of its first row: pandoc reads no cell beyond them."""
+    """The columns of each table, by the identity of its first row: pandoc reads no cell beyond them; and
+    empty cells, by that of the first cell of a row that begins at a later column than others.
+    """
+    places = Places()
     for table in root.iter(_TABLE):
         rows = [*_own(table, _ROW)]
-        widths = (sum(map(_width, _own(row, _CELL))) for row in rows)
         if rows:
-            columns = '<w:gridCol w:w="1"/>' * min(max(widths), _WIDEST)
-            yield id(rows[0]), f"<w:tblGrid>{columns}</w:tblGrid>"
+            ends = [_ends(row) for row in rows]
+            columns = min(max(its[-1] for its in ends), _WIDEST)
+            grid = '<w:gridCol w:w="1"/>' * columns
+            yield id(rows[0]), f"<w:tblGrid>{grid}</w:tblGrid>"
+            yield from _ahead_of_rows(rows, ends, places)
+
+
+def _ahead_of_rows(
+    rows: Sequence[Element], ends: Sequence[Sequence[int]], places: Places
+) -> Iterator[tuple[int, str]]:
+    """As many empty cells ahead of a row as others have in the columns that it passes over.
+
+    Raises `NoDocument` if there are too many of them.
+    """
+    most = {0: 0}
+    for its in ends:
+        most.update((end, max(n, most.get(end, 0))) for n, end in enumerate(its))
+    columns, counts = sorted(most), [0]
+    for column in columns:
+        counts.append(max(counts[-1], most[column]))
+    for row, (first, *_) in zip(rows, ends):
+        count = counts[bisect_right(columns, first)]
+        cell = next(_own(row, _CELL), None)
+        if count and cell is not None:
+            places.add(count)
+            width = f'<w:tcPr><w:gridSpan w:val="{first - count + 1}"/></w:tcPr>'
+            others = "<w:tc><w:p/></w:tc>" * (count - 1)
+            yield id(cell), f"<w:tc>{width}<w:p/></w:tc>{others}"
+
+
+def _ends(row: Element) -> list[int]:
+    """The column before which the first cell of a row begins, and those with which its cells end."""
+    before = row.find(f"{_W}trPr/{_W}gridBefore")
+    first = whole(None if before is None else before.get(f"{_W}val"), 0)
+    widths = map(_width, _own(row, _CELL))
+    return [*accumulate(widths, initial=min(max(first, 0), _WIDEST))]
 
 
 def _own(element: Element, tag: str) -> Iterator[Element]:
