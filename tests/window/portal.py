@@ -4,6 +4,7 @@ As a program it has the settings that stand in its words, three for each, and th
 come in: a namespace, a key and a value. That it is there is said in a line.
 """
 
+import signal
 import subprocess
 import sys
 from typing import Any
@@ -50,6 +51,14 @@ class Portal:
         assert self._program.stdin is not None
         self._program.stdin.write(f"{' '.join(key)} {value}\n")
         self._program.stdin.flush()
+
+    def pause(self) -> None:
+        """Has it do nothing, as on a machine that has much other work."""
+        self._program.send_signal(signal.SIGSTOP)
+
+    def go_on(self) -> None:
+        """Has it do what was asked meanwhile."""
+        self._program.send_signal(signal.SIGCONT)
 
     def end(self) -> None:
         """Ends it."""

@@ -1,18 +1,24 @@
 """A window that is closed or ended while something is typed: what is said of that is so."""
 
-from collections.abc import Callable, Sequence
+import os
+import signal
+from collections.abc import Callable, Iterator, Sequence
 from pathlib import Path
 from typing import Any
 
 import pytest
 
+from braildesk import Session, requests
+from braildesk.desk.draft import Aim
 from braildesk.desk.drafts import Drafts
+from braildesk.desk.layout import PageSize
 
 from PyQt6.QtCore import QEvent, Qt
 from PyQt6.QtGui import QInputMethodEvent, QKeyEvent
 from PyQt6.QtWidgets import QApplication
 
 from scribe.window import dialogs
+from scribe.window.actions import Actions
 from scribe.window.desk import Desk
 
 from conftest import Open
@@ -83,6 +89,7 @@ def test_a_text_of_a_closed_book_that_can_be_kept_nowhere_does_not_go_unasked(
 ) -> None:
     _without_folder(tmp_path)
     desk.window.print.insertPlainText("Oh, ")
+    os.kill(desk.book.pid, signal.SIGKILL)
     moon.unlink()
     desk.act("keep")
     assert desk.is_closed and desk.window.message.text.endswith(_LOST)
@@ -165,6 +172,19 @@ def test_lines_wait_while_it_is_asked_what_they_are_also_if_the_window_is_ended(
     assert waiting == ["The One.\nTwo. Moon", "", *["The One.\nTwo. Moon"] * 2]
 
 
+def test_what_is_refused_before_an_action_is_not_said_to_be_refused_again(
+    desk: Desk,
+) -> None:
+    desk.window.print.insertPlainText("#")
+    for again in ("", "Again: "):
+        desk.act("heading")
+        said = desk.window.message.text
+        assert said.startswith(f"{again}The table of paragraph 1 has no cells for “#”")
+        assert desk.window.focusWidget() is desk.window.message
+    assert desk.contents.version == 5
+    desk.window.print.setPlainText("The Moon")
+
+
 def test_letters_that_come_after_a_refusal_are_typed_on(desk: Desk) -> None:
     window, kind = desk.window, QEvent.Type.KeyPress
     held = Qt.KeyboardModifier.NoModifier
@@ -184,6 +204,33 @@ def test_letters_that_come_after_a_refusal_are_typed_on(desk: Desk) -> None:
     press("t")
     assert window.print.text == "#sThe Moon"
     window.print.setPlainText("The Moon")
+
+
+def test_a_letter_that_dead_keys_make_is_typed_on_and_changes_nothing_that_is_read(
+    desk: Desk,
+) -> None:
+    window = desk.window
+
+    def commit(text: str) -> None:
+        event = QInputMethodEvent()
+        event.setCommitString(text)
+        QApplication.sendEvent(window.focusWidget(), event)
+
+    desk.act("to_print")
+    window.print.textCursor().insertText("#")
+    desk.act("keep")
+    said = window.message.text
+    commit("é")
+    assert (window.print.text, window.message.text) == ("#éThe Moon", said)
+    window.print.setPlainText("The Moon")
+    desk.act("to_cells")
+    cells = window.cells.text
+    commit("é")
+    assert (window.cells.text, window.print.text) == (cells, "The Moon")
+    desk.act("strike")
+    desk.act("to_print")
+    commit("é")
+    assert (window.print.text, window.message.text) == ("The Moon", STRUCK)
 
 
 @pytest.mark.parametrize(
@@ -257,6 +304,23 @@ def test_a_letter_that_was_typed_and_taken_away_comes_back_where_one_is_in_the_p
     desk.act("give_up")
 
 
+def test_what_was_typed_and_taken_away_does_not_come_back_in_another_paragraph(
+    desk: Desk,
+) -> None:
+    desk.do(requests.Type(1, "en", "The Moon"))
+    desk.choose(0)
+    field = desk.window.print
+    desk.act("to_print")
+    field.put_caret(8)
+    field.insertPlainText("#")
+    field.textCursor().deletePreviousChar()
+    desk.choose(1)
+    assert (desk.number, field.text) == (4, "The Moon")
+    desk.act("take_back")
+    assert field.text == "The Moon"
+    assert desk.window.message.text.startswith("Taken back: paragraph 4 ")
+
+
 @pytest.mark.parametrize("act", ["heading", "strike"])
 def test_what_was_done_after_a_letter_was_taken_away_is_taken_back_before_it(
     desk: Desk, act: str
@@ -273,19 +337,110 @@ def test_what_was_done_after_a_letter_was_taken_away_is_taken_back_before_it(
     assert field.text == "The Moon"
 
 
-def test_what_is_typed_is_offered_where_a_book_that_is_gone_was_saved(
-    desk: Desk, stays: list[str]
+@pytest.fixture
+def shelved(application: QApplication, moon: Path) -> Iterator[Desk]:
+    """The book in a folder of books, at work in a window that nobody sees."""
+    (folder := moon.with_name("books")).mkdir()
+    desk = Desk(moon.rename(folder / moon.name), None, 0.0, PageSize())
+    desk.acts = Actions(desk).by_name
+    desk.begin()
+    yield desk
+    desk.close()
+
+
+@pytest.mark.parametrize("is_closing", [False, True])
+@pytest.mark.parametrize("is_new", [False, True])
+@pytest.mark.parametrize("is_moved", [False, True])
+def test_what_is_in_a_book_that_is_gone_is_said_to_be_and_what_is_typed_on_is_offered(
+    shelved: Desk, stays: list[str], is_moved: bool, is_new: bool, is_closing: bool
 ) -> None:
-    desk.act("strike")
-    desk.act("new_after")
-    desk.window.print.insertPlainText("Es war")
+    desk, field = shelved, shelved.window.print
+    if is_new:
+        desk.act("new_after")
+    field.insertPlainText("Es war ")
+    if is_moved:
+        folder = desk.path.parent.rename(desk.path.parent.with_name("older"))
+        there = folder / desk.path.name
+    else:
+        desk.path.unlink()
+        there = desk.path.with_name(f"{desk.path.name}-saved-1")
+    if is_closing:
+        assert not desk.window.close()
+        assert stays == [desk.window.message.text]
+    else:
+        desk.act("keep")
+    assert desk.is_closed and not desk.is_typed()
+    assert desk.window.message.text.endswith(" What was typed last is in it.")
+    with Session(there) as session:
+        text = session.print_of(4 if is_new else 1)
+    assert text == ("Es war " if is_new else "Es war The Moon")
+    assert Drafts(there).waiting() is None and Drafts(desk.path).waiting() is None
+    # letters that are typed on are offered where that is opened
+    field.insertPlainText("einmal")
+    desk.wait_for_draft()
+    (drafts := Drafts(there)).take_in()
+    waiting = drafts.waiting()
+    assert waiting is not None
+    where = (Aim.AFTER, 4) if is_new else (Aim.EDIT, 1)
+    assert (waiting.aim, waiting.paragraph) == where
+    assert waiting.text == ("einmal" if is_new else "Es war einmalThe Moon")
+
+
+def test_what_is_typed_after_lines_that_a_book_which_is_gone_lacks_is_kept_beside_them(
+    shelved: Desk, asked: dict[str, int]
+) -> None:
+    desk, field = shelved, shelved.window.print
+    asked["Pasted lines"] = 0
+    field.put_caret(8)
+    desk.path.unlink()
+    field.pasted.emit(["s", "One.", "Two."])
+    assert desk.is_closed
+    lines = "The Moons\nOne.\nTwo."
+    desk.wait_for_draft()
+    there = Drafts(desk.path.with_name(f"{desk.path.name}-saved-1"))
+    for drafts in (there, Drafts(desk.path)):
+        waiting = drafts.waiting()
+        assert waiting is not None and waiting.text == lines
+    field.insertPlainText("So ")
+    desk.wait_for_draft()
+    for drafts in (there, Drafts(desk.path)):
+        waiting = drafts.waiting()
+        assert waiting is not None and waiting.text == "The MoonSo "
+        assert [each.text for each in drafts.given_up()] == [lines]
+
+
+def test_letters_that_are_taken_away_again_wait_nowhere_for_a_book_that_is_gone(
+    shelved: Desk, stays: list[str]
+) -> None:
+    desk, field = shelved, shelved.window.print
+    field.insertPlainText("Es war ")
     desk.path.unlink()
     desk.act("keep")
-    assert desk.is_closed
-    saved = desk.path.with_name(f"{desk.path.name}-saved-1")
-    waiting = Drafts(saved).waiting()
-    assert waiting is not None and waiting.text == "Es war"
-    desk.window.print.setPlainText("")
+    there = desk.path.with_name(f"{desk.path.name}-saved-1")
+    assert desk.is_closed and not desk.is_typed()
+    field.insertPlainText("x")
+    desk.wait_for_draft()
+    assert Drafts(there).waiting() is not None
+    field.undo()
+    desk.wait_for_draft()
+    assert not desk.is_typed()
+    assert Drafts(there).waiting() is None
+
+
+def test_a_note_in_a_book_whose_folder_was_moved_is_not_said_to_wait(
+    shelved: Desk, monkeypatch: pytest.MonkeyPatch
+) -> None:
+    desk = shelved
+
+    def text(*asked: Any) -> str:
+        asked[-1]("who?")
+        desk.path.parent.rename(desk.path.parent.with_name("older"))
+        return "who?"
+
+    monkeypatch.setattr(dialogs, "text_further", text)
+    desk.act("mark")
+    assert desk.window.message.text.endswith(" What was typed last is in it.")
+    assert desk.draft() is None and Drafts(desk.path).waiting() is None
 
 
 def test_a_word_that_an_input_method_still_holds_is_kept_with_what_was_typed(

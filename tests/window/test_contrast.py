@@ -151,10 +151,10 @@ def test_a_window_waits_for_no_program_for_settings(
         return number.read_text().strip() if number.exists() else ""
 
     its = Path("/proc", window.until("the program", read))
-    window.until("the end of the program", lambda: not its.exists())
     is_usual(window)
     window.press("Ctrl+q")
     assert window.end() == 0
+    assert not its.exists()
 
 
 def is_of(application: QApplication, palette: QPalette) -> bool:
@@ -175,6 +175,26 @@ def test_a_size_that_was_chosen_in_high_contrast_stays(
     portal.set(CONTRAST, "0")
     assert wait(application, PATIENCE_SECONDS, lambda: is_of(application, before))
     assert [field.font().pointSizeF() for field in fields] == sizes
+
+
+def test_a_portal_that_answers_late_is_followed(
+    application: QApplication,
+    lends: Lend,
+    monkeypatch: pytest.MonkeyPatch,
+    tmp_path: Path,
+) -> None:
+    portal, before = lends((CONTRAST, "1")), application.palette()
+    asked = tmp_path / "asked"
+    monkeypatch.setenv("PATH", program(tmp_path / "bin", f"#!/bin/sh\n: > {asked}\n"))
+    portal.pause()
+    contrast = Contrast(application)
+    contrast.follow()
+    # nobody waits for it any more by then
+    assert wait(application, PATIENCE_SECONDS, asked.exists)
+    portal.go_on()
+    assert wait(application, PATIENCE_SECONDS, lambda: not is_of(application, before))
+    portal.set(CONTRAST, "0")
+    assert wait(application, PATIENCE_SECONDS, lambda: is_of(application, before))
 
 
 def test_kde_has_colours_of_its_own(

@@ -78,14 +78,27 @@ def test_lines_are_paragraphs_the_first_of_which_goes_on_here(
 
 
 def test_of_lines_that_are_refused_none_is_lost(
-    desk: Desk, asked: dict[str, int]
+    desk: Desk, asked: dict[str, int], monkeypatch: pytest.MonkeyPatch
 ) -> None:
+    monkeypatch.setattr(dialogs, "one_of", lambda _, t, a, names, f: names[0])
     asked["Pasted lines"] = 0
     desk.act("new_after")
-    _paste(desk, "One.\n#\nTwo.")
+    _paste(desk, "One.\n#\nTwo.\nThree.")
     assert _prints(desk)[:3] == ["The Moon", "One.", "The mon is far away."]
     assert desk.window.message.text.startswith("1 typed. The table en has no cells")
-    assert [each.text for each in Drafts(desk.path).given_up()] == ["#\nTwo."]
+    assert desk.window.message.text.endswith(
+        "The line stays typed. What comes after it was given up. Ctrl+B brings it back."
+    )
+    assert [each.text for each in Drafts(desk.path).given_up()] == ["Two.\nThree."]
+    desk.wait_for_draft()
+    waiting = Drafts(desk.path).waiting()
+    assert waiting is not None and waiting.text == desk.window.print.text == "#"
+    desk.window.print.setPlainText("A sign.")
+    desk.act("keep")
+    desk.act("bring_back")
+    wanted = ["The Moon", "One.", "A sign.", "Two.", "Three.", "The mon is far away."]
+    assert _prints(desk)[:6] == wanted
+    assert not desk.is_typed()
 
 
 @pytest.mark.parametrize("paragraphs", ["#One.\nTwo.", "One.#\nTwo.\n"])

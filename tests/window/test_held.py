@@ -9,6 +9,7 @@ from PyQt6.QtCore import QCoreApplication, QEvent, Qt
 from PyQt6.QtGui import QKeyEvent, QWindow
 from PyQt6.QtWidgets import QApplication, QDialog
 
+from braildesk import Session
 from braildesk.desk.drafts import Drafts
 
 from scribe.window.held import Held
@@ -150,6 +151,39 @@ def test_what_is_typed_before_a_dialog_opens_is_no_answer_to_it(
     window.no_dialog()
     window.reads("Message", "Kept: mark 2.")
     assert prints_after(window, moon)[0] == "The Moon"
+
+
+@pytest.mark.parametrize("is_before", [False, True])
+def test_what_is_pressed_after_the_key_that_closes_does_nothing_and_its_text_is_kept(
+    moon: Path, at: Open, is_before: bool
+) -> None:
+    window = at(moon)
+    window.press("F2")
+    window.focus("text", "Print")
+    window.type("A ")
+    window.reads("Print", "A The Moon")
+    program = session_of(window)
+    os.kill(program, signal.SIGSTOP)
+    if is_before:
+        window.press("Return")
+        window.reads("Message", WAITING)
+    window.press("Ctrl+q")
+    window.press("Ctrl+d")
+    window.type("It set.")
+    await_kept(window, moon, "It set.")
+    os.kill(program, signal.SIGCONT)
+    shown, said = window.program.communicate(timeout=120)
+    assert shown.decode() == "moon.braildesk is at version 6.\n"
+    assert " ".join(said.decode().split()) == (
+        "What was typed and isn't in the book is kept, and is offered when it is next opened."
+    )
+    with Session(moon) as session:
+        first = session.paragraphs()[0]
+        assert (session.print_of(1), first.struck) == ("A The Moon", False)
+    again = at(moon)
+    again.says(
+        "What came while braildesk didn't answer is set aside: “It set.”. Ctrl+B brings it back."
+    )
 
 
 class Pressed(QWindow):

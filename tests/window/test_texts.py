@@ -9,6 +9,8 @@ from PyQt6.QtGui import QKeyEvent
 from PyQt6.QtWidgets import QApplication
 
 from braildesk import Session, new_book, requests
+from braildesk.desk.draft import Aim, Draft
+from braildesk.desk.drafts import Drafts
 from braildesk.desk.layout import PageSize
 from braildesk.protocol.requests import Table, Type
 from braildesk.text.spans import Span
@@ -18,6 +20,7 @@ from scribe.window.desk import Desk
 from scribe.window.fields import Field
 
 from conftest import Open
+from reader import all_within
 
 TABLE = """\
 space \\s 0
@@ -83,6 +86,49 @@ def own(application: QApplication, tmp_path: Path) -> Iterator[Desk]:
     found.begin()
     yield found
     found.close()
+
+
+@pytest.mark.parametrize(
+    "name, shown",
+    [
+        ("a\x1b[2J\u202eb\nc", "a<U+001B>[2J<U+202E>b<U+000A>c.braildesk"),
+        ("moon[*]", "moon[*].braildesk"),
+        ("the moon " + "x" * 200, "the moon…"),
+    ],
+)
+def test_the_name_of_a_book_stands_in_the_title_as_it_can_be_seen(
+    tmp_path: Path, at: Open, name: str, shown: str
+) -> None:
+    book = _book(tmp_path / f"{name}.braildesk", "ab")
+    window = at(book)
+    assert window.top.get_name() == shown
+    # and where it can't be opened
+    another = at(book, is_waited_for=False)
+    another.dialog(shown)
+
+
+def test_what_is_asked_names_a_folder_as_it_can_be_seen(
+    tmp_path: Path, at: Open
+) -> None:
+    (folder := tmp_path / "a\u202eb").mkdir()
+    book = _book(folder / "own.braildesk", "ab")
+    Drafts(book).save(Draft(Aim.EDIT, 1, "own", "ab", "abb", None, 2))
+    renamed = folder.rename(tmp_path / "books")
+    window = at(renamed / book.name)
+    top = window.dialog("Unsent text")
+    asked = window.until(
+        "the question",
+        lambda: next(
+            (
+                str(each.get_name())
+                for each in all_within(top)
+                if "abb" in each.get_name()
+            ),
+            None,
+        ),
+    )
+    was = f"{tmp_path}/a<U+202E>b/own.braildesk"
+    assert f"It was typed when the book was {was}." in asked
 
 
 def _press(field: Field, key: Qt.Key, text: str = "") -> None:

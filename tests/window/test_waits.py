@@ -19,7 +19,7 @@ from braildesk.text.spans import Span
 from scribe.window import dialogs
 from scribe.window.actions import Actions
 from scribe.window.book import ChosenParagraph, Done
-from scribe.window.desk import Desk
+from scribe.window.desk import Desk, New
 from scribe.window.marking import Marking
 
 from conftest import Open, prints, wait
@@ -270,14 +270,16 @@ def test_of_lines_none_is_lost_with_the_session_and_none_typed_twice(
     assert prints(moon)[: len(lines) + 3] == [*lines, "One.", "Two.", "Three."]
 
 
-def test_lines_after_one_that_is_refused_come_back_after_those_before(
-    desk: Desk, asked: dict[str, int], monkeypatch: pytest.MonkeyPatch
+def test_of_lines_one_that_is_refused_stays_typed_after_those_before(
+    desk: Desk, asked: dict[str, int]
 ) -> None:
     asked["Pasted lines"] = 0
     desk.act("new_after")
     desk.window.print.pasted.emit(["One.", "#", "Two."])
+    assert desk.new == New(Aim.AFTER, 4, "en") and desk.typed_text() == "#"
     (left,) = Drafts(desk.path).given_up()
-    assert (left.paragraph, left.text) == (4, "#\nTwo.")
+    # it comes after the paragraph that is chosen by then
+    assert (left.paragraph, left.text) == (None, "Two.")
     assert desk.number == 4
 
 

@@ -32,7 +32,8 @@ def test_words_are_changed_everywhere_and_that_is_taken_back(
     given["choices"] = [0]
     desk.act("change_all")
     assert given["said"][0].startswith(
-        "“a” would be changed in 1 place of 1 paragraph. The first one:\n\nPlace 1 of 1"
+        "“a” would be changed in 1 place of 1 paragraph, unless the book refuses a place."
+        " The first one:\n\nPlace 1 of 1"
     )
     assert prints_of(desk)[2] == "Twice one day the sea comes up."
     said = (
@@ -55,6 +56,25 @@ def test_each_place_is_asked_about_and_the_rest_stay(
     assert prints_of(desk)[:2] == ["The Moun", "The mon is far away."]
     assert desk.window.message.text.startswith("“o” was replaced by “u” in 1 place")
     assert "3 places stay as before." in desk.window.message.text
+
+
+def test_places_where_the_new_words_stand_already_are_not_asked_about(
+    desk: Desk, given: Answers
+) -> None:
+    given["fields"] = ["m", "M"], [False, True]
+    given["choices"] = [1, 1, 0, 1]
+    desk.act("change_all")
+    asked, *places = given["said"][:3]
+    assert asked.startswith("“m” would be changed in 2 places of 2 paragraphs, ")
+    assert [each.split(":")[0] for each in places] == [
+        "Place 1 of 2, paragraph 2",
+        "Place 2 of 2, paragraph 3",
+    ]
+    assert prints_of(desk) == [
+        "The Moon",
+        "The mon is far away.",
+        "Twice a day the sea coMes up.",
+    ]
 
 
 def test_places_that_are_refused_are_said_and_stay(desk: Desk, given: Answers) -> None:

@@ -30,6 +30,7 @@ from scribe.window.choosing import chosen_book
 from scribe.window.contrast import Contrast
 from scribe.window.desk import Desk
 from scribe.window.dialogs import choice
+from scribe.window.window import title_of
 from scribe.words.status import Interrupted
 
 # what Qt says before it ends the process because the X server, or the compositor, is gone
@@ -40,7 +41,13 @@ _NO_SCREEN = (
 )
 _KEPT = "What was reported as kept is in the book."
 _SCREEN_GONE = f"The screen is gone: its X server or its compositor ended. {_KEPT}"
-_SIGNALS = (signal.SIGHUP, signal.SIGTERM, signal.SIGINT, signal.SIGXCPU)
+_SIGNALS = (
+    signal.SIGHUP,
+    signal.SIGTERM,
+    signal.SIGINT,
+    signal.SIGQUIT,
+    signal.SIGXCPU,
+)
 
 
 class NoBook(Exception):
@@ -64,6 +71,8 @@ class Application:
         # says a sentence and ends the process, where Qt would end it
         self._leave = leave
         self._is_begun = False
+        #: What became of what was typed and isn't in the book, once the window is closed.
+        self.waits = ""
         qInstallMessageHandler(self._heard)
         self._qt = QApplication(sys.argv[:1])
         self._qt.setApplicationName("braildesk")
@@ -127,7 +136,8 @@ class Application:
     def tell(self, sentence: str) -> None:
         """Shows a sentence in the place of a book that isn't open, until it is closed."""
         with _ended_by_signals():
-            choice(self._desk.window, self.name, visible(sentence), ["&Close"])
+            title = title_of(self.name)
+            choice(self._desk.window, title, visible(sentence), ["&Close"])
 
     def run(self) -> None:
         """Shows the book until its window is closed; raises what ends it otherwise."""
@@ -141,10 +151,11 @@ class Application:
         cause = self._fault
         if cause is None and self._ended_by is not None:
             cause = Interrupted(self._ended_by)
+        self.waits = desk.waits_at_once()
         if cause is not None:
-            if waits := desk.waits_at_once():
+            if self.waits:
                 kept = "" if isinstance(cause, Lost) else _KEPT
-                cause.add_note(f"{kept} {waits}".strip())
+                cause.add_note(f"{kept} {self.waits}".strip())
             raise cause
 
     def _show(self) -> None:

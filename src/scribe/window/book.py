@@ -580,6 +580,18 @@ class OpenBook:
         numbers = [each.id for each in contents.paragraphs]
         return lines_left(self._session, draft, contents.version, numbers)
 
+    def unkept_in(self, saved: Path, draft: Draft) -> tuple[Contents, Draft | None]:
+        """The file that has all of a book which is gone, and what of a text that waits isn't in it."""
+        ended = self._session
+        try:
+            look = self._while_waiting
+            with Session(saved, while_waiting=look) as self._session:
+                book, version = self._session.paragraphs(), self._session.last_version
+                contents = Contents(version, book, self.tables.names)
+                return contents, self.unkept(contents, draft)
+        finally:
+            self._session = ended
+
     def where_kept(self, contents: Contents, draft: Draft) -> str:
         """Where a text that waits, or its first line, is in the book, in words; or nothing.
 

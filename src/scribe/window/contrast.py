@@ -1,8 +1,8 @@
 """High contrast where the desktop wants it: black and white, and full lines around all parts.
 
 Qt takes it from KDE by itself. Any other desktop is asked over the session bus, by the portal that
-lends its settings to programs, and is followed as they change. Without a portal GNOME's program for
-settings is asked, once. Nothing waits for an answer.
+lends its settings to programs, and is followed as they change. Without a portal, or where none answers
+soon, GNOME's program for settings is asked, once. Nothing waits for an answer, and none comes too late.
 """
 
 import os
@@ -29,7 +29,8 @@ _OF_GNOME = ("org.gnome.desktop.a11y.interface", "high-contrast")
 _SCHEME = ("org.freedesktop.appearance", "color-scheme")
 # what the portal says of contrast that is to be high, and of colours that are to be dark
 _HIGH, _DARK = 1, 1
-_PATIENCE_MILLISECONDS = 2_000
+# when the program is asked besides, and how long a call to the bus may take: as long as it takes
+_SOON_MILLISECONDS, _EVER_MILLISECONDS = 2_000, 0x7FFF_FFFF
 _HALF = 128
 _BLACK, _WHITE = QColor("black"), QColor("white")
 _PADDING = 4
@@ -73,7 +74,7 @@ class Contrast(QObject):
         self._waiting: list[QDBusPendingCallWatcher] = []
         #: Whether high contrast is shown on black; none where it isn't shown.
         self._shown: bool | None = None
-        self._is_dark = False
+        self._is_dark = self._is_program_asked = False
 
     def follow(self) -> None:
         """Asks the desktop, and has the colours be what it answers, now and later."""
@@ -83,11 +84,12 @@ class Contrast(QObject):
         self._bus.connect(*_PORTAL, "SettingChanged", self._changed)
         for key in (_CONTRAST, _OF_GNOME, _SCHEME):
             self._ask(key)
+        QTimer.singleShot(_SOON_MILLISECONDS, self._ask_program)
 
     def _ask(self, key: Key) -> None:
         asked = QDBusMessage.createMethodCall(*_PORTAL, "Read")
         asked.setArguments(key)
-        call = self._bus.asyncCall(asked, _PATIENCE_MILLISECONDS)
+        call = self._bus.asyncCall(asked, _EVER_MILLISECONDS)
         watcher = QDBusPendingCallWatcher(call)
         self._waiting.append(watcher)
         watcher.finished.connect(lambda: self._answered(watcher, key))
@@ -99,7 +101,7 @@ class Contrast(QObject):
             # what was told since then is newer
             self._known.setdefault(key, reply.reply().arguments()[0])
             self._show()
-        if not (self._waiting or self._known):
+        if not self._waiting:
             self._ask_program()
 
     @pyqtSlot(QDBusMessage)  # type: ignore[misc]
@@ -109,7 +111,10 @@ class Contrast(QObject):
         self._show()
 
     def _ask_program(self) -> None:
-        """Asks GNOME's program for settings, if there is one."""
+        """Asks GNOME's program for settings, if there is one and nothing is known."""
+        if self._known or self._is_program_asked:
+            return
+        self._is_program_asked = True
         program = QProcess(self)
 
         def ended() -> None:
@@ -123,7 +128,6 @@ class Contrast(QObject):
 
         program.finished.connect(ended)
         program.start("gsettings", ["get", *_OF_GNOME])
-        QTimer.singleShot(_PATIENCE_MILLISECONDS, program.kill)
         self._application.aboutToQuit.connect(end)
 
     def _show(self) -> None:

@@ -74,6 +74,10 @@ _UNKEPT = "This was typed, and could not be kept:"
 _FEW = 3
 
 
+class _Told(Exception):
+    """What is in the way of an action stands in the message already."""
+
+
 @dataclass(frozen=True)
 class New:
     """A new paragraph that is typed: before or after which one, and by which table."""
@@ -112,6 +116,7 @@ class Desk:
         self.is_closed = False
         #: How the session ended, in sentences, until the book is open again.
         self.loss = ""
+        self._saved: Path | None = None  # where all of a book that is gone was saved
         self.acts: dict[str, Callable[[], None]] = {}
         self._left: LeftAt | None = None
         self._light: Highlighted | None = None
@@ -233,6 +238,8 @@ class Desk:
                 yield
         except Stop as stop:
             self.refuse(stop.sentence)
+        except _Told:
+            pass
         except Lost as lost:
             self.after_loss(lost)
         except DeskError as refused:
@@ -372,6 +379,8 @@ class Desk:
             self.reading = self.asked(lambda: self.book.reading(its))
         if self.number != before:
             self.in_hand = None
+            # what was typed and taken away in another one, which may read the same, stays there
+            self.window.print.have_kept()
         self.show_reading(0 if self.number != before else self.window.print.place)
 
     def show_reading(self, place: int) -> None:
@@ -684,7 +693,15 @@ class Desk:
                 if draft is not None and self.is_typed():
                     self._say_besides(not_kept(fault))
 
-        self.aside.latest("draft", lambda: self.unsent.keep(draft), look)
+        saved = self._saved
+
+        def keep() -> None:
+            before = self.unsent.waiting
+            self.unsent.keep(draft)
+            if saved is not None:
+                self.drafts.copy_to(saved, before)
+
+        self.aside.latest("draft", keep, look)
 
     def have_wait(self, beside: Draft | None) -> None:
         """Has what is typed elsewhere than in the print wait, or nothing."""
@@ -765,6 +782,9 @@ class Desk:
     def _typed(self) -> None:
         if self._is_showing:
             return
+        if self.is_closed and self.beside is not None:
+            # what is typed on in the print has to wait by itself
+            self.put_by(self.beside)
         self.keep_draft(self.draft())
         text, table = self.typed_text(), self.table_of_typed()
         if not self.is_typed():
@@ -816,7 +836,8 @@ class Desk:
         if not is_kept:
             # if it can't wait either, that is said after the refusal
             self.keep_draft(self.draft())
-            return not self.is_typed() and self.new is None
+            is_settled = not self.is_typed() and self.new is None
+            return is_settled and not self.is_closed
         self.keep_draft(None)
         self.new = None
         self._is_showing = True
@@ -832,7 +853,7 @@ class Desk:
     def settled(self) -> int:
         """The number of the chosen paragraph, once what was typed is kept."""
         if not self.settle():
-            raise Stop(self.window.message.text)
+            raise _Told
         if self.number is None:
             raise Stop(NO_PARAGRAPH)
         return self.number
@@ -932,20 +953,48 @@ class Desk:
             found, said = None, [lost.sentence, str(failed)]
         if found is None:
             self.is_closed, self.loss = True, " ".join(said)
-            if self.draft() is not None and self.is_waiting():
-                said.append(f"What is typed is kept in {self.drafts.place}.")
-            elif self.draft() is not None:
-                said.append(_ONLY_HERE)
+            more = self._what_is_typed(lost)
             self._follow(lost)
-            self.refuse(" ".join(said))
+            self.refuse(" ".join([*said, *more]))
             return
         said.append(self.taken_again(found))
         self.refuse(" ".join(filter(None, said)))
 
+    def _what_is_typed(self, lost: Lost) -> Sequence[str]:
+        """Says where what is typed is, if anything is, once the book is closed."""
+        draft = self.draft()
+        if draft is None:
+            return ()
+        if isinstance(lost, Displaced) and lost.saved is not None:
+            look = partial(self.book.unkept_in, Path(lost.saved), draft)
+            with suppress(DeskError, OSError):
+                contents, rest = self.work.result(look)
+                if rest is None:
+                    self._have_kept(contents)
+                    return ("What was typed last is in it.",)
+        if self.is_waiting():
+            return (f"What is typed is kept in {self.drafts.place}.",)
+        return (_ONLY_HERE,)
+
+    def _have_kept(self, contents: Contents) -> None:
+        """What is typed is in the book, which is elsewhere by now, and isn't typed any more."""
+        reading, new, is_beside = self.reading, self.new, self.beside is not None
+        self.contents = replace(self.contents, version=contents.version)
+        if new is not None:
+            newest = max(each.id for each in contents.paragraphs)
+            self.begin_new(New(Aim.AFTER, newest, new.table))
+        elif reading is not None and not is_beside:
+            its = replace(reading.its, text=self.typed_text(), braille=self.braille)
+            self.reading = replace(reading, its=its)
+            self.window.print.have_kept()
+        self.have_wait(None)
+        self.wait_for_draft()
+
     def _follow(self, lost: Lost) -> None:
         """Has what isn't in the book be offered where all of a book that is gone was saved."""
         if isinstance(lost, Displaced) and lost.saved is not None:
-            self.drafts.copy_to(Path(lost.saved))
+            self._saved = Path(lost.saved)
+            self.drafts.copy_to(self._saved)
 
     def taken_again(self, contents: Contents) -> str:
         """Shows a book that was opened again; what is typed and isn't in it stays typed.
@@ -953,7 +1002,7 @@ class Desk:
         If it was typed elsewhere than in the print, or others changed that, it is given up, which is
         said.
         """
-        self.is_closed, self.loss = False, ""
+        self.is_closed, self.loss, self._saved = False, "", None
         self.watch()
         draft, new, number = self.draft(), self.new, self.number
         place, beside = self.window.print.place, self.beside
@@ -986,16 +1035,21 @@ class Desk:
         self.take_begun_word()
         self._is_acting = True
         try:
-            if self.is_waiting() if self.is_closed else self.settle():
-                return True
+            may_close = self.is_waiting() if self.is_closed else self.settle()
         finally:
             self._is_acting = False
-        return self.is_left()
+        if not may_close and not self.is_left():
+            return False
+        self.held.end()
+        return True
 
     def is_left(self) -> bool:
         """Asks whether the window goes while something is typed that wasn't kept."""
+        said, answers = self.window.message.text, ("&Close", "&Stay")
+        if self.draft() is None:
+            # all is in the book, which is elsewhere by now
+            return choice(self.window, "Closed", said, answers) == 0
         waits = "What is typed waits, and is offered when the book is opened again."
         if not self.is_waiting():
             waits = _ONLY_HERE
-        asked = f"{self.window.message.text}\n\n{waits}"
-        return choice(self.window, "Not kept", asked, ("&Close", "&Stay")) == 0
+        return choice(self.window, "Not kept", f"{said}\n\n{waits}", answers) == 0

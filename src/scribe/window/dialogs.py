@@ -25,6 +25,8 @@ from PyQt6.QtWidgets import (
     QWidget,
 )
 
+from braildesk.text.characters import is_shown, visible
+
 from scribe.window.fields import ENTER, Field, lines_of
 from scribe.window.worker import Worker
 
@@ -99,7 +101,7 @@ def choice(
     """Asks, and gives the place of the answer among those; the last one is also Escape's."""
     box = QMessageBox(over)
     box.setWindowTitle(title)
-    box.setText(sentence)
+    box.setText(visible(sentence, lambda each: each == "\n" or is_shown(each)))
     box.setTextFormat(Qt.TextFormat.PlainText)
     buttons = []
     for answer in answers:

@@ -12,6 +12,7 @@ from PyQt6.QtGui import (
     QDropEvent,
     QFocusEvent,
     QFont,
+    QInputMethodEvent,
     QKeyEvent,
     QKeySequence,
     QMouseEvent,
@@ -211,6 +212,15 @@ class Field(QPlainTextEdit):
             if self.isReadOnly() and is_letter(event):
                 self.typed_on.emit(event.text())
             super().keyPressEvent(event)
+
+    def inputMethodEvent(self, event: QInputMethodEvent | None) -> None:
+        """What dead keys and input methods make is typed as a letter is, and not into what is read."""
+        if event is None:
+            return
+        if not self.isReadOnly():
+            super().inputMethodEvent(event)
+        elif event.commitString():
+            self.typed_on.emit(event.commitString())
 
     def mouseDoubleClickEvent(self, event: QMouseEvent | None) -> None:
         """Says that a word was clicked on twice."""

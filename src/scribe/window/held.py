@@ -45,6 +45,8 @@ class Held(QObject):
         # the dialog over the window as the wait began
         self._over: QWidget | None = None
         self._obeyed: QEvent | None = None
+        # whether the window for which it is isn't shown any more
+        self._is_over = False
         self._soon = QTimer(self)
         self._soon.setSingleShot(True)
         self._soon.timeout.connect(self._obey)
@@ -52,6 +54,10 @@ class Held(QObject):
         assert self._application is not None
         # before a screen reader's, which hears of keys as they are pressed
         self._application.installEventFilter(self)
+
+    def end(self) -> None:
+        """Holds all that is pressed from now on, since nothing is shown any more on which it could act."""
+        self._is_over = True
 
     def stop(self) -> None:
         """Holds nothing more, since nothing more is waited for."""
@@ -92,7 +98,8 @@ class Held(QObject):
 
     def eventFilter(self, to: QObject | None, event: QEvent | None) -> bool:
         """Takes what hands do while something is waited for, and what they did after that."""
-        if not (self._waits or self._events) or to is None or event is None:
+        is_held = self._waits or self._events or self._is_over
+        if not is_held or to is None or event is None:
             return False
         over, kind = QApplication.activeModalWidget(), event.type()
         # a dialog that opens while something is waited for can be answered
@@ -113,13 +120,13 @@ class Held(QObject):
 
     def _is_by_hands(self, to: QObject, kind: QEvent.Type) -> bool:
         """Whether hands did this. A window is closed by what they did before, too."""
-        if kind == _KINDS.Close and not self._waits:
+        if kind == _KINDS.Close and (self._is_over or not self._waits):
             return False
         return kind in _OF_KEYS or kind in _BY_HANDS and isinstance(to, QWindow)
 
     def _obey(self) -> None:
         """Has the first of what is held do what it is for, once nothing is waited for."""
-        if self._waits or not self._events:
+        if self._waits or self._is_over or not self._events:
             return
         over, to, event = self._events[0]
         if QApplication.activeModalWidget() is not over:

@@ -299,19 +299,38 @@ class Typed:
         try:
             done = dialogs.long(desk.window, desk.work, "Paragraphs", act)
         except NotAll as part:
-            left = self._lines.left()
-            assert left is not None
-            desk.new = None
-            desk.show(desk.asked(desk.book.contents), left.paragraph)
-            if not desk.is_ending:
-                desk.put_by(left)
-            why = getattr(part.cause, "sentence", "Stopped.")
-            raise Stop(
-                f"{part.done:,} typed. {why} The others can be brought back: Ctrl+B."
-            ) from part
+            raise Stop(f"{part.done:,} typed. {self._left_of(part.cause)}") from part
         desk.have_wait(None)
         desk.new = None
         desk.show_done(done)
+
+    def _left_of(self, cause: BaseException) -> str:
+        """Says why not all lines were typed, and what becomes of those that are left."""
+        desk, left = self.desk, self._lines.left()
+        assert left is not None
+        desk.new = None
+        desk.show(desk.asked(desk.book.contents), left.paragraph)
+        if isinstance(cause, Refused) and not desk.is_ending:
+            return f"{cause.sentence} {self._first_stays(left)}"
+        if not desk.is_ending:
+            desk.put_by(left)
+        why = getattr(cause, "sentence", "Stopped.")
+        return f"{why} The others can be brought back: Ctrl+B."
+
+    def _first_stays(self, left: Draft) -> str:
+        """Has the first of some lines stay typed, which was refused, and the others be given up."""
+        desk = self.desk
+        first, _, others = left.text.partition("\n")
+        said = "The line stays typed."
+        if others:
+            # no paragraph is named, so that they come after the one that is chosen by then
+            rest = replace(left, aim=Aim.AFTER, paragraph=None, before="", text=others)
+            said += f" What comes after it was given up. {desk.put_by(rest)}"
+        desk.have_wait(None)
+        table = left.table or desk.table_of_new()
+        desk.begin_new(New(left.aim, left.paragraph, table), first)
+        desk.keep_draft(desk.draft())
+        return said
 
     def _line_typed(self, newest: int) -> None:
         """Has lines wait without the first of them, which is the newest paragraph now.

@@ -24,6 +24,8 @@ from PyQt6.QtWidgets import (
     QWidget,
 )
 
+from braildesk.text.characters import is_visible, visible
+from braildesk.text.excerpt import opening
 from braildesk.text.spans import Span
 
 from scribe.window.fields import AROUND, Cells, Field, Print
@@ -45,6 +47,14 @@ _LINES, _LINES_IF_LOW = (2, 3), (1, 2)
 _LOW = 20
 _MARGIN = 6
 _PAGE_WIDTH = 360
+# so many columns of the name of a file are in a title
+_TITLE = 80
+
+
+def title_of(name: str) -> str:
+    """The name of a file as the title of a window."""
+    # of “[*]” Qt would make a sign of its own, unless it stands there twice
+    return opening(visible(name, is_visible), _TITLE).replace("[*]", "[*]" * 2)
 
 
 class Window(QMainWindow):
@@ -62,7 +72,7 @@ class Window(QMainWindow):
     ) -> None:
         super().__init__()
         self._is_closing = is_closing
-        self.setWindowTitle(name)
+        self.setWindowTitle(title_of(name))
         self.setAcceptDrops(True)
         self.model = Paragraphs(ask)
         self.table = Table(self.model, self._letter)

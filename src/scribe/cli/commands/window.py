@@ -69,9 +69,11 @@ def run(arguments: Namespace, console: Console) -> Status:
         raise
     application.run()
     if application.loss:
-        console.say(application.loss)
+        console.say(f"{application.loss} {application.waits}".rstrip())
         return Status.FAILED
     tell_end(console, application.name, application.version, application.strayed)
+    if application.waits:
+        console.say(application.waits)
     return Status.DONE
 
 
