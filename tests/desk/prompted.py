@@ -1,9 +1,13 @@
 """Somebody at a terminal at which scribe asks for lines, as talk and try do."""
 
+import fcntl
 import os
 import re
+import signal
 import sys
+import termios
 import threading
+import time
 from collections.abc import Callable
 from pathlib import Path
 
@@ -19,6 +23,13 @@ from tool import (
     environment,
     is_taken_at_start,
     scribe_in_copy,
+)
+
+
+#: What has scribe look at what is typed so often that it is about to do so whenever it is stopped.
+LOOKING_OFTEN = (
+    "from scribe.prompt import typed_lines; typed_lines._TICK = 0.001;"
+    " from scribe.cli import main; main()"
 )
 
 
@@ -93,6 +104,36 @@ class Prompted:
         """The process of the session that scribe talks to."""
         children = Path(f"/proc/{self._child.pid}/task/{self._child.pid}/children")
         return int(children.read_text().split()[0])
+
+    def wait_for_request(self) -> None:
+        """Waits until scribe waits for the answer to a request, which the program doesn't read."""
+        stat = Path(f"/proc/{self._child.pid}/stat")
+        end = time.monotonic() + WAIT_SECONDS
+        with open(f"/proc/{self.program()}/fd/0", "rb", buffering=0) as sent:
+            while not any(fcntl.ioctl(sent, termios.FIONREAD, bytes(4))) or (
+                stat.read_text().rpartition(")")[2].split()[0] != "S"
+            ):
+                assert time.monotonic() < end, "scribe sends nothing"
+                time.sleep(0.01)
+
+    def wait_for_ticks(self) -> None:
+        """Waits until scribe has looked several times at what is typed, which it does now and then."""
+        status = Path(f"/proc/{self._child.pid}/status")
+
+        def looked() -> int:
+            lines = status.read_text().splitlines()
+            return int(next(n for n in lines if n.startswith("voluntary_")).split()[1])
+
+        before, end = looked(), time.monotonic() + WAIT_SECONDS
+        while looked() < before + 5:
+            assert time.monotonic() < end, "scribe doesn't look at what is typed"
+            time.sleep(0.01)
+
+    def stop_by(self, number: signal.Signals) -> Ran:
+        """Ends scribe by a signal, and gives how it ended and what it wrote."""
+        os.kill(self._child.pid, number)
+        status = at_end(self._child)
+        return Ran(status, self._child.before, "")
 
     def hang_up(self) -> int:
         """Closes the terminal, as its window does, and gives how scribe ended."""

@@ -10,9 +10,10 @@ from pathlib import Path
 import pytest
 
 import braildesk
+from braildesk import pipe
 from scribe.cli.commands import AT_PROMPT
 from scribe.words.typed import InvalidInput, words_of
-from prompted import Prompted
+from prompted import LOOKING_OFTEN, Prompted
 from terminal import once_free
 from tool import at_end, at_terminal, end, environment, scribe
 
@@ -487,6 +488,28 @@ def test_a_line_that_ctrl_z_interrupts_is_not_cut_and_goes_on_after_it(
         )
 
 
+def test_a_talk_that_is_told_to_end_while_it_is_stopped_ends_once_it_goes_on(
+    moon: Path,
+) -> None:
+    settings = environment(PS1="$ ", TERM="xterm-256color", INPUTRC="/dev/null")
+    words = ["--norc", "--noprofile", "-i"]
+    shell = at_terminal("bash", *words, settings=settings)
+    shell.expect_exact("$ ")
+    shell.sendline(f"'{sys.executable}' -c '{LOOKING_OFTEN}' talk '{moon}'")
+    shell.expect_exact("> ")
+    shell.send("type end en It is ")
+    shell.expect_exact("type end en It is ")
+    shell.send("\x1a")
+    shell.expect_exact("Stopped")
+    shell.expect_exact("$ ")
+    # it is stopped again as it leaves the terminal, which the shell has
+    shell.sendline("kill %1; until jobs -l | grep output; do sleep 0.1; done; fg")
+    shell.expect_exact("Stopped by SIGTERM. What was reported as kept is in the book,")
+    shell.expect_exact("$ ")
+    end(shell)
+    assert talk_about(moon).greeting[-1] == "type end en It is "
+
+
 def test_the_end_of_the_input_ends_the_talk(talk: Prompted, moon: Path) -> None:
     ran = talk.end("\x04")
     assert ran.status == 0
@@ -522,6 +545,23 @@ def test_a_line_that_was_not_begun_is_not_taken_for_what_was_changed_last(
     said = " ".join(" ".join(talk.type("change 3 sea moon")).split())
     assert said.endswith("opened again: it is at version 9, as before.")
     assert talk.type("change 3 sea moon")[-1] == "The book is at version 10."
+
+
+@pytest.mark.parametrize(
+    "line",
+    [
+        *("next", "list", "find moon", "volumes --pages 9", "print 1"),
+        "change-all far near --dry-run",
+    ],
+)
+def test_of_a_line_that_only_looks_it_is_not_said_that_the_book_may_lack_it(
+    talk: Prompted, line: str
+) -> None:
+    os.kill(talk.program(), signal.SIGKILL)
+    said = " ".join(" ".join(talk.type(line)).split())
+    assert said == (
+        "The session was ended by signal 9. The book was opened again: it is at version 7, as before."
+    )
 
 
 @pytest.mark.parametrize("kept", [True, False])
@@ -574,6 +614,79 @@ def test_a_talk_whose_book_can_not_be_opened_again_ends(
     ran = talk.end("strike 1\r")
     assert ran.status == 3
     assert "There is no file" in " ".join(ran.shown.split())
+
+
+def break_off(moon: Path, keys: str, number: signal.Signals | None) -> None:
+    """Types keys at a talk, and ends it by a signal, or by closing the terminal."""
+    talk = talk_about(moon)
+    talk.shown_keys(keys)
+    if number is not None:
+        talk.stop_by(number)
+    else:
+        talk.wait_for_ticks()
+        talk.hang_up()
+
+
+@pytest.mark.parametrize(
+    "number", [signal.SIGTERM, signal.SIGHUP, signal.SIGQUIT, None]
+)
+def test_a_line_that_was_broken_off_comes_back_at_the_next_talk(
+    moon: Path, number: signal.Signals | None
+) -> None:
+    break_off(moon, "type end en It is “far” and", number)
+    # what is read from a pipe neither says nor takes it
+    ran = scribe("talk", moon, folder=moon.parent, given="print 1\n")
+    assert (ran.status, ran.said) == (0, "")
+    break_off(moon, "strike 1", signal.SIGTERM)
+    # such a short one is typed anew
+    break_off(moon, "che", signal.SIGTERM)
+    talk = talk_about(moon)
+    assert talk.greeting[1:] == [
+        "Up brings back what was typed as a talk was broken off:",
+        "type end en It is “far” and",
+        "strike 1",
+    ]
+    assert talk.type("\x1b[A\x1b[A away.")[0] == (
+        "Paragraph 4, at the end of the book: It is “far” and away."
+    )
+    assert talk.end("quit\r").status == 0
+    talk = talk_about(moon)
+    assert len(talk.greeting) == 1
+    assert talk.end("quit\r").status == 0
+
+
+@pytest.mark.parametrize("number", [signal.SIGTERM, signal.SIGQUIT, None])
+def test_lines_that_were_entered_and_not_answered_come_back_too(
+    moon: Path, number: signal.Signals | None
+) -> None:
+    def wait_as_usual() -> None:
+        pipe._LONG = 100
+
+    talk = Prompted("talk", str(moon), folder=moon.parent, before=wait_as_usual)
+    talk.type("change 1", ": ")
+    talk.type("moon is", ": ")
+    os.kill(talk.program(), signal.SIGSTOP)
+    talk.keys("sea and the tides are\r")
+    talk.wait_for_request()
+    if number is not None:
+        talk.stop_by(number)
+    else:
+        talk.hang_up()
+    talk = talk_about(moon)
+    assert talk.greeting[1:] == [
+        "Up brings back what was typed as a talk was broken off:",
+        *("change 1", "moon is", "sea and the tides are"),
+    ]
+    assert talk.end("quit\r").status == 0
+
+
+def test_a_line_that_was_broken_off_and_can_not_be_kept_is_said(moon: Path) -> None:
+    home = moon.with_name("file")
+    home.write_text("mine")
+    talk = talk_about(moon, XDG_STATE_HOME=str(home))
+    talk.shown_keys("strike 1")
+    said = " ".join(talk.stop_by(signal.SIGTERM).shown.split())
+    assert "What is typed at the prompt can't be kept" in said
 
 
 @pytest.mark.parametrize("typed", ["", "strike"])
@@ -631,7 +744,7 @@ def test_a_talk_takes_lines_from_a_pipe_too(moon: Path) -> None:
     ]
 
 
-@pytest.mark.parametrize("name", ["SIGTERM", "SIGHUP"])
+@pytest.mark.parametrize("name", ["SIGTERM", "SIGHUP", "SIGQUIT"])
 def test_a_talk_that_is_told_to_end_says_so_and_leaves_the_terminal_as_it_was(
     moon: Path, name: str
 ) -> None:

@@ -1,14 +1,23 @@
 """scribe try, by what a person sees at a terminal."""
 
+import sys
 import time
 from collections.abc import Iterator
 from pathlib import Path
 
 import pytest
 
-from scribe.prompt import typed_lines
-from prompted import Prompted
-from tool import Ran, put_in_place, scribe
+from scribe.prompt import trial, typed_lines
+from prompted import LOOKING_OFTEN, Prompted
+from tool import (
+    WAIT_SECONDS,
+    Ran,
+    at_terminal,
+    end,
+    environment,
+    put_in_place,
+    scribe,
+)
 
 TABLE = """\
 space \\s 0
@@ -117,6 +126,48 @@ def test_a_file_that_is_saved_as_it_was_is_no_matter(
     assert trying.type("the")[0] == "⠮"
 
 
+def test_a_file_that_an_editor_has_emptied_is_read_once_it_is_filled(
+    own: Path,
+) -> None:
+    def wait_long() -> None:
+        look_often()
+        trial._FILLING = WAIT_SECONDS
+
+    trying = Prompted("try", own.name, folder=own.parent, before=wait_long)
+    own.write_text("")
+    trying.keys("the\r")
+    trying.wait_for("the\r\n")
+    put_in_place(own, TABLE.replace("word the 2346", "word the 1-1"))
+    # after the first line, by which it is said that the file was saved
+    assert trying.wait() == [
+        "own.utb: 12 lines, accepted.",
+        "⠁⠁",
+        "“the” ⠁⠁: line 11, word the 1-1",
+    ]
+    trying.close()
+
+
+def test_a_file_that_was_emptied_is_left_alone_for_a_while(
+    own: Path, monkeypatch: pytest.MonkeyPatch
+) -> None:
+    now = 100.0
+    monkeypatch.setattr(time, "monotonic", lambda: now)
+    tried = trial.Trial(own)
+    own.write_text("")
+    assert [tried.is_saved(), tried.is_saved(), tried.is_saved()] == 3 * [False]
+    now += 60
+    assert tried.is_saved() and tried.reread()
+    assert tried.state() == ["own.utb is empty, and defines no character."]
+    put_in_place(own, TABLE)
+    assert [tried.is_saved(), tried.is_saved()] == [False, True]
+
+
+def test_a_file_that_stays_empty_is_said_to_be_empty(own: Path) -> None:
+    own.write_text("")
+    ran = scribe("try", own.name, folder=own.parent, given="")
+    assert ran.shown.startswith("own.utb is empty, and defines no character.\n")
+
+
 def test_a_fault_is_shown_until_it_is_gone(trying: Prompted, own: Path) -> None:
     put_in_place(own, TABLE + "always the 9\nalways x 1\n")
     refused = [
@@ -166,6 +217,26 @@ def test_ctrl_c_gives_up_the_line_and_not_the_trial(trying: Prompted) -> None:
     trying.shown_keys("the")
     assert trying.give_up() == ["Given up."]
     assert trying.type("a")[0] == "⠁"
+
+
+def test_a_trial_that_is_told_to_end_while_it_is_stopped_ends_once_it_goes_on(
+    own: Path,
+) -> None:
+    settings = environment(PS1="$ ", TERM="xterm-256color", INPUTRC="/dev/null")
+    shell = at_terminal("bash", "--norc", "--noprofile", "-i", settings=settings)
+    shell.expect_exact("$ ")
+    shell.sendline(f"'{sys.executable}' -c '{LOOKING_OFTEN}' try '{own}'")
+    shell.expect_exact("> ")
+    shell.send("the")
+    shell.expect_exact("the")
+    shell.send("\x1a")
+    shell.expect_exact("Stopped")
+    shell.expect_exact("$ ")
+    # it is stopped again as it leaves the terminal, which the shell has
+    shell.sendline("kill %1; until jobs -l | grep output; do sleep 0.1; done; fg")
+    shell.expect_exact("Stopped by SIGTERM. No book was changed.")
+    shell.expect_exact("$ ")
+    end(shell)
 
 
 def test_the_line_before_comes_back(trying: Prompted) -> None:

@@ -13,7 +13,7 @@ from braildesk.text.characters import visible
 from braildesk.text.excerpt import excerpt_lines, opening
 from braildesk.text.spans import find_spans
 
-from scribe.cli.commands import AT_PROMPT, COMMANDS, prompt_command
+from scribe.cli.commands import AT_PROMPT, COMMANDS, may_change, prompt_command
 from scribe.cli.opened_book import places_shown
 from scribe.cli.parser import Asked, Parser, TextAsked, WordsRefused, as_asked
 from scribe.prompt.conversation import Conversation
@@ -105,7 +105,7 @@ def command_answered(talk: Conversation, file: Path, name: str, rest: str) -> No
     """Answers a line that begins with a command of the shell."""
     its = prompt_command(name)
     parser = its.prompt_parser()
-    arguments = Namespace(file=file, read_at=file, ask_person=talk.ask)
+    arguments = Namespace(command=name, file=file, read_at=file, ask_person=talk.ask)
     try:
         parser.parse_args(_with_paragraph(talk, parser, words_of(rest)), arguments)
     except TextAsked as asked:
@@ -117,6 +117,7 @@ def command_answered(talk: Conversation, file: Path, name: str, rest: str) -> No
     except WordsRefused as refused:
         _say_refused(talk, parser, refused)
         return
+    talk.may_change = may_change(arguments)
     _complete(talk, parser, arguments)
     console = as_asked(talk.console, arguments)
     try:

@@ -46,6 +46,8 @@ class Conversation:
     shown: int | None = None
     #: The lines that were typed since the last prompt for a command.
     typed: list[str] = field(default_factory=list)
+    #: Whether the line that is answered may change the book.
+    may_change: bool = False
 
     def next_line(self, prompt: str, is_kept: bool = False) -> bytes:
         """The next line that is typed; Ended if there is none, GivenUp by Ctrl-C."""
@@ -128,6 +130,7 @@ def request_line(conversation: Conversation, line: bytes) -> None:
     say = conversation.console.say
     try:
         read = _head(line)
+        conversation.may_change = isinstance(read, (Command, TableHead))
         control = control_refused(line)
         request = read
         if isinstance(read, TableHead):

@@ -22,7 +22,7 @@ from scribe.words.status import Interrupted, Status, Stop
 
 # where a terminal that collects lines cuts them, by n_tty(4)
 CUT_BYTES = 4_095
-# how often, in seconds, it is asked whether something came about before a line is begun
+# how often, in seconds, a line is noted, and it is asked whether something came about before it is begun
 _TICK = 0.5
 _SETTINGS = (
     # pasted lines are lines of their own, and nothing is written that isn't text
@@ -112,9 +112,15 @@ class TypedLines(AbstractContextManager["TypedLines"]):
         for setting in _SETTINGS:
             readline.parse_and_bind(setting)
         readline.set_auto_history(False)
+        # until then the line before stands where the next one is typed
+        readline.set_startup_hook(self._begin)
         self._before = termios.tcgetattr(0)
         #: The prompt of the line that is typed, if one is.
         self._prompt: str | None = None
+        #: What was typed of a line as a signal, or the end of the terminal, broke it off.
+        self.broken_off = ""
+        # what was typed of the line a moment ago, and whether that is the line which is being typed
+        self._noted, self._is_begun = "", False
 
     def __enter__(self) -> Self:
         self._interrupted = signal.signal(signal.SIGINT, _nothing)
@@ -146,24 +152,40 @@ class TypedLines(AbstractContextManager["TypedLines"]):
         """The next line, edited by readline."""
         try:
             with self._typing(prompt), self._asking(is_due):
-                line = input(prompt)
+                line = _read(prompt)
         except EOFError:
-            print()
+            self._break_off()
             return None
         except Due:
             print()
             raise
         except Interrupted:
-            print()
+            self._break_off()
             raise
         except KeyboardInterrupt:
             print()
             raise GivenUp from None
         if is_kept and line:
-            # if the system has no locale with UTF-8, only lines of ASCII come back
-            with suppress(UnicodeEncodeError):
-                self._readline.add_history(line)
+            self.bring_back(line)
         return line.encode("utf-8", "surrogateescape")
+
+    def bring_back(self, line: str) -> None:
+        """Has a line be the first that the arrow keys bring back."""
+        # if the system has no locale with UTF-8, only lines of ASCII come back
+        with suppress(UnicodeEncodeError):
+            self._readline.add_history(line)
+
+    def _begin(self) -> None:
+        self._is_begun = True
+
+    def _break_off(self) -> None:
+        """Leaves the line that is typed, of which nobody sees the end if the terminal was closed."""
+        self.broken_off = self._readline.get_line_buffer() if self._is_begun else ""
+        try:
+            print()
+        except OSError:
+            # readline keeps no line of a terminal that was closed
+            self.broken_off = self.broken_off or self._noted
 
     @contextmanager
     def _typing(self, prompt: str) -> Iterator[None]:
@@ -186,7 +208,10 @@ class TypedLines(AbstractContextManager["TypedLines"]):
         mode = termios.tcgetattr(0)
         termios.tcsetattr(0, termios.TCSADRAIN, self._before)
         signal.signal(signal.SIGTSTP, signal.SIG_DFL)
+        # the timer would come at once with a signal that ends scribe meanwhile
+        timer = signal.setitimer(signal.ITIMER_REAL, 0)
         os.kill(os.getpid(), signal.SIGTSTP)
+        signal.setitimer(signal.ITIMER_REAL, *timer)
         signal.signal(signal.SIGTSTP, self._stop)
         # a terminal that was closed needs no care
         with suppress(termios.error):
@@ -196,17 +221,21 @@ class TypedLines(AbstractContextManager["TypedLines"]):
 
     @contextmanager
     def _asking(self, is_due: Callable[[], bool]) -> Iterator[None]:
-        """While a line isn't begun it is asked whether something is due."""
+        """While a line is typed it is noted, and while none is begun it is asked whether something is due."""
 
         def ask(number: int, frame: FrameType | None) -> None:
-            if not self._readline.get_line_buffer() and is_due():
+            self._noted = self._readline.get_line_buffer()
+            if not self._noted and is_due():
                 raise Due
 
+        self._noted, self._is_begun = "", False
         # what the timer was set for before this, or is meanwhile, is to come
-        if is_due is never or signal.getitimer(signal.ITIMER_REAL)[0]:
+        if signal.getitimer(signal.ITIMER_REAL)[0]:
             yield
             return
         before = signal.signal(signal.SIGALRM, ask)
+        # what is written to a terminal that was stopped goes on afterwards
+        signal.siginterrupt(signal.SIGALRM, False)
         signal.setitimer(signal.ITIMER_REAL, _TICK, _TICK)
         try:
             yield
@@ -229,6 +258,17 @@ def are_typed() -> bool:
     """Whether a person sits at a terminal that shows what is typed."""
     streams = (sys.stdin, sys.stdout)
     return all(stream is not None and stream.isatty() for stream in streams)
+
+
+def _read(prompt: str) -> str:
+    """A line, or what a signal raises that ends the reading."""
+    try:
+        return input(prompt)
+    except SystemError as fault:
+        # another signal came before Python was done with that one
+        if fault.__cause__ is None:
+            raise
+        raise fault.__cause__ from None
 
 
 def _read_utf8() -> None:

@@ -20,6 +20,7 @@ from scribe.cli.parser import (
     width,
     words,
 )
+from scribe.prompt.broken_off import BrokenOff
 from scribe.prompt.conversation import Conversation, Ended, request_line
 from scribe.prompt.typed_lines import GivenUp, Lines, PipedLines, TypedLines, are_typed
 from scribe.words.aftermath import opened_again, tell_end
@@ -84,6 +85,7 @@ def run(arguments: Namespace, console: Console) -> Status:
             f"{arguments.file.name}: version {session.last_version:,}, {count:,}"
             f" {'paragraph' if count == 1 else 'paragraphs'}. Type help, or quit to end."
         )
+        broken_off = opened.enter_context(BrokenOff(conversation, arguments.file))
         while (lost := _talk(conversation, arguments.file)) is not None:
             again, said = opened_again(arguments.file, lost, conversation.shown)
             console.say(*said)
@@ -97,6 +99,7 @@ def run(arguments: Namespace, console: Console) -> Status:
         # what is said of the book is so once it is closed
         session.close()
         tell_end(console, "The book", session.last_version, session.strayed)
+        broken_off.forget()
     return Status.DONE
 
 
@@ -110,11 +113,12 @@ def _talk(conversation: Conversation, file: Path) -> Lost | None:
     while True:
         try:
             conversation.typed.clear()
+            conversation.may_change = False
             line = conversation.next_line(PROMPT, is_kept=True)
             if line.decode(errors="replace").strip() in _ENDS:
                 return None
             conversation.shown = conversation.session.last_version
-            with in_sentences():
+            with in_sentences(lambda: conversation.may_change):
                 _answer(conversation, file, line)
             if conversation.session.last_version != conversation.shown:
                 conversation.remind()
@@ -127,8 +131,9 @@ def _talk(conversation: Conversation, file: Path) -> Lost | None:
         except Ended:
             return None
         except Lost as lost:
-            console.say("What was typed last may not be in the book:")
-            console.say(*map(visible, conversation.typed))
+            if conversation.may_change:
+                console.say("What was typed last may not be in the book:")
+                console.say(*map(visible, conversation.typed))
             return lost
 
 

@@ -100,7 +100,7 @@ def run(arguments: Namespace, console: Console) -> Status:
                 if line is None:
                     return trial.status
                 last = _text(line) or last
-                with in_sentences():
+                with in_sentences(lambda: False):
                     talk.answer(last)
             except GivenUp:
                 talk.show("Given up.")

@@ -1,0 +1,69 @@
+"""Lines that were being typed as a conversation was broken off, which come back at the next one."""
+
+from contextlib import AbstractContextManager, suppress
+from pathlib import Path
+from types import TracebackType
+
+from braildesk.desk.drafts import Drafts, NotKept
+
+from scribe.prompt.conversation import Conversation
+from scribe.prompt.typed_lines import TypedLines
+from scribe.words.console import OutputFailed
+from scribe.words.drafts import not_kept
+
+# what is no longer is typed again sooner than it is looked for
+_FEW = 3
+_COMES_BACK = "Up brings back what was typed as a talk was broken off:"
+
+
+class BrokenOff(AbstractContextManager["BrokenOff"]):
+    """Brings such lines back while a book is open, and keeps those that are broken off.
+
+    These are the one that is being typed, and those that were entered to change the book, of which
+    nothing was answered yet.
+    """
+
+    def __init__(self, conversation: Conversation, book: Path) -> None:
+        self._conversation = conversation
+        its = conversation.lines
+        self._lines = its if isinstance(its, TypedLines) else None
+        self._console = conversation.console
+        self._drafts = Drafts(book)
+        self._before: tuple[str, ...] = ()
+        if self._lines is not None:
+            self._drafts.adopt(is_open=True)
+            self._before = self._drafts.lines()
+            for line in self._before:
+                self._lines.bring_back(line)
+        if self._before:
+            self._console.say(_COMES_BACK, *self._before)
+
+    def __exit__(
+        self,
+        kind: type[BaseException] | None,
+        error: BaseException | None,
+        trace: TracebackType | None,
+    ) -> None:
+        if self._lines is None or kind is None:
+            return
+        its = self._conversation
+        typed = [*its.typed, self._lines.broken_off]
+        if not its.may_change:
+            typed = typed[-1:]
+        new = [each for each in typed if len(each.strip()) > _FEW]
+        if new:
+            others = (each for each in self._before if each not in new)
+            self._keep((*others, *new))
+
+    def forget(self) -> None:
+        """Keeps no line any more: the conversation came to its end."""
+        if self._before:
+            self._keep(())
+
+    def _keep(self, lines: tuple[str, ...]) -> None:
+        try:
+            self._drafts.keep_lines(lines)
+        except NotKept as fault:
+            # the terminal may be closed
+            with suppress(OutputFailed):
+                self._console.say(not_kept(fault))
