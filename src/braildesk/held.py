@@ -206,5 +206,17 @@ def _not_taken(path: str, source: BinaryIO) -> CannotOpen:
     if is_used(source):
         # a log that was put in the place of this one would end the session
         return cannot_open(BookFile(path), Why.IN_USE)
-    why = Why.LOG_OPEN if os.access(path, os.W_OK) else Why.LOG_OPEN_TO_READ
+    if not os.access(path, os.W_OK):
+        return cannot_open(BookFile(path), Why.LOG_OPEN_TO_READ)
+    why = Why.LOG_STAYS if _is_to_stay(log_path(path)) else Why.LOG_OPEN
     return cannot_open(BookFile(path), why)
+
+
+def _is_to_stay(log: str) -> bool:
+    """Whether a log lies in a folder, as one that all share, that lets this user move no file of others."""
+    try:
+        folder = os.stat(os.path.dirname(log))
+        movers = (0, folder.st_uid, os.lstat(log).st_uid)
+    except OSError:
+        return False
+    return bool(folder.st_mode & stat.S_ISVTX) and os.geteuid() not in movers

@@ -3,7 +3,7 @@
 import errno
 import os
 import sqlite3
-from collections.abc import Iterator, Sequence
+from collections.abc import Callable, Iterator, Sequence
 from contextlib import ExitStack, closing, contextmanager
 from dataclasses import dataclass, replace
 from os import fspath
@@ -46,6 +46,8 @@ from braildesk.workshop import (
 _ROOM = "Let TMPDIR name a folder with room."
 #: Why a copy can't be opened where it is, whatever is so of the book.
 _OF_PLACE = (Why.NO_ROOM, Why.OVER_QUOTA, Why.READ_ONLY, Why.DENIED)
+#: Whether the copy takes the place of a file that is held.
+_Replaces = Callable[[BinaryIO], bool]
 #: What may be of a file whose folder isn't on the disk yet.
 _GONE, _OLDER = "it may be gone", "the older file may be there"
 
@@ -212,25 +214,28 @@ def copy(
     to: StrPath,
     *,
     overwrite: bool = False,
+    only_books: bool = False,
     program: StrPath | None = None,
     timeout: float = 0.0,
 ) -> int:
     """Copies a closed book, with what stands in the log beside it, and gives its version.
 
     The copy is written in a folder beside ``to``, opened there by the program, and gets its name
-    only then. A file that is at ``to`` already is replaced only if ``overwrite`` says so, and no
-    session can open it meanwhile. While a session has one of them open, this is tried again for
-    ``timeout`` seconds.
+    only then. A file that is at ``to`` already is replaced only if ``overwrite`` says so, and, with
+    ``only_books``, if it begins as a book; no session can open it meanwhile. While a session has one
+    of them open, this is tried again for ``timeout`` seconds.
     """
     book, named = BookFile(fspath(path)), fspath(to)
-    return waited(lambda: _copied(book, named, overwrite, program), timeout)
+    is_replaced = opening.begins_as_book if only_books else lambda file: True
+    replaces = is_replaced if overwrite else None
+    return waited(lambda: _copied(book, named, replaces, program), timeout)
 
 
 def _copied(
-    book: BookFile, named: str, overwrite: bool, program: StrPath | None
+    book: BookFile, named: str, replaces: _Replaces | None, program: StrPath | None
 ) -> int:
     try:
-        with held(book) as source, _claimed(source, named, overwrite) as target:
+        with held(book) as source, _claimed(source, named, replaces) as target:
             with made_beside(target.path) as made:
                 copied = copy_held(source, log_path(book.path), made)
                 version = _checked(made, copied, book, named, program)
@@ -253,7 +258,9 @@ class _Target:
 
 
 @contextmanager
-def _claimed(source: BinaryIO, named: str, overwrite: bool) -> Iterator[_Target]:
+def _claimed(
+    source: BinaryIO, named: str, replaces: _Replaces | None
+) -> Iterator[_Target]:
     """A path at which a copy may be put. The lock of a file that is there is held all the while."""
     if opening.word(named) is None:
         raise cannot_open(BookFile(named), Why.NO_PATH)
@@ -269,9 +276,13 @@ def _claimed(source: BinaryIO, named: str, overwrite: bool) -> Iterator[_Target]
             raise NotCopied(
                 f"“{named}” is the book itself. Take another path for the copy."
             )
-        if not overwrite:
+        if replaces is None:
             raise _taken(named)
         older = stack.enter_context(held(BookFile(named), os.O_RDWR))
+        if not replaces(older):
+            raise NotCopied(
+                f"“{named}” is no book, and was left as it is. Take another path for the copy."
+            )
         place = stack.enter_context(place_of(path))
         _judge_place(place, older)
         yield _Target(named, path, place, older)

@@ -96,7 +96,10 @@ def read_file(path: StrPath, most: int) -> bytes:
             raise _named(NoFile("it is a terminal and no file"), path)
         before = _state(file)
         size, _ = before
-        data = file.read(most + 1) if size <= most else b""
+        data: bytes | None = file.read(most + 1) if size <= most else b""
+        if data is None:
+            # as of what the system says in a file, while it has nothing to say
+            raise _named(NoFile("it would have to be waited for, as a device"), path)
         if max(size, len(data)) > most:
             raise _named(TooLarge(most), path)
         if not is_handed_over(path) and _is_changed(file, before, data):

@@ -1,6 +1,7 @@
 """The file of a book that a session has open: whether it still is there and a book, and what is in it."""
 
 import os
+import stat
 import time
 from collections.abc import Iterator
 from contextlib import contextmanager, suppress
@@ -11,7 +12,7 @@ from zlib import crc32
 
 from braildesk import program as programs
 from braildesk.held import copy_held
-from braildesk.opening import MAGIC, has_work, is_used
+from braildesk.opening import MAGIC, has_work, is_log, is_used
 from braildesk.program import StrPath
 from braildesk.protocol.asked import real_path
 from braildesk.refusals import Failed, Unopened
@@ -105,7 +106,8 @@ class OpenFile:
     @property
     def has_its_log(self) -> bool:
         """Whether the log has its name still, by which it is found if the program is stopped."""
-        return _is_at(f"{self.path}-wal", self._log)
+        log = f"{self.path}-wal"
+        return _may_be_log(log) if self._log is None else _is_at(log, self._log)
 
     @property
     def is_log_written_into(self) -> bool:
@@ -134,7 +136,7 @@ class OpenFile:
             return
         if self._log is None:
             with suppress(OSError):
-                self._log = os.open(f"{self.path}-wal", _READ)
+                self._log = _opened_log(f"{self.path}-wal")
         if self._log is not None:
             before = self._log_noted
             is_longer = before is not None and _has_part(self._log, before)
@@ -331,6 +333,23 @@ def _is_at(path: str, descriptor: int | None) -> bool:
     except OSError:
         # a folder that may not be entered any more says nothing of its files
         return True
+
+
+def _may_be_log(path: str) -> bool:
+    """Whether what has the name of a log may be one; True if nothing has it, or nobody can tell."""
+    try:
+        return is_log(path)
+    except OSError:
+        return True
+
+
+def _opened_log(path: str) -> int | None:
+    """A log that is held open, none if something else has its name by now, as a folder or a pipe."""
+    log = os.open(path, _READ)
+    if stat.S_ISREG(os.fstat(log).st_mode):
+        return log
+    os.close(log)
+    return None
 
 
 def _log_state(log: int, last: int, kept: int = 0) -> _LogState:

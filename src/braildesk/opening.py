@@ -29,6 +29,11 @@ from braildesk.text import limits
 
 #: The bytes of a log up to the first page in it: its own header, and that of the page.
 _BEFORE_PAGE = 32 + 24
+#: What is read of those: how long a page is, and whether a change ends with it; and what is in both if
+#: the page is one of the log's.
+_LOG, _PAGE = struct.Struct(">8xI4x8s8x"), struct.Struct(">4xI8s8x")
+#: A page has no fewer bytes.
+_SMALLEST_PAGE = 512
 #: What the file of every book begins with.
 MAGIC = b"SQLite format 3\0"
 #: With less room than this on its disk a book may not be kept, in bytes.
@@ -168,9 +173,14 @@ def may_be_book(path: str | PathLike[str]) -> bool:
     """Whether what stands at a path may be a book; True if nothing does, or it can't be read."""
     try:
         with open_file(path) as file:
-            return file.read(len(MAGIC)) in (b"", MAGIC)
+            return begins_as_book(file)
     except OSError:
         return True
+
+
+def begins_as_book(file: BinaryIO) -> bool:
+    """Whether a file begins as a book does, or has no bytes."""
+    return os.pread(file.fileno(), len(MAGIC), 0) in (b"", MAGIC)
 
 
 def _size_in(header: bytes) -> int:
@@ -195,12 +205,26 @@ def _why_denied(path: str) -> Why | None:
 
 
 def is_log(log: str) -> bool:
-    """Whether a log is one that the program opens, or isn't there: a link is none."""
+    """Whether a log is one that the program opens, or isn't there: a link or a book is none."""
     try:
         found = os.lstat(log)
     except FileNotFoundError:
         return True
-    return stat.S_ISREG(found.st_mode) and found.st_nlink == 1
+    if not stat.S_ISREG(found.st_mode) or found.st_nlink != 1:
+        return False
+    # the program would begin a log in the place of a book of that name
+    return not (has_page(found.st_size) and _is_database(log))
+
+
+def _is_database(log: str) -> bool:
+    """Whether what stands in the place of a log is a database; not if it can't be read."""
+    # a pipe that was put there in this moment isn't waited for
+    flags = os.O_RDONLY | os.O_NOFOLLOW | os.O_NONBLOCK | os.O_CLOEXEC
+    try:
+        with open(os.open(log, flags), "rb") as file:
+            return file.read(len(MAGIC)) == MAGIC
+    except OSError:
+        return False
 
 
 def why_no_log(log: str) -> Why | None:
@@ -226,6 +250,25 @@ def has_page(size: int) -> bool:
     return size > _BEFORE_PAGE
 
 
+def changes_in(log: str) -> int:
+    """How many changes a log holds at most, none if it isn't there: a page ends each of them."""
+    try:
+        file = open(log, "rb")
+    except FileNotFoundError:
+        return 0
+    with file:
+        head = file.read(_LOG.size)
+        size, salt = _LOG.unpack(head) if len(head) == _LOG.size else (0, b"")
+        count = 0
+        while (
+            size >= _SMALLEST_PAGE and len(head := file.read(_PAGE.size)) == _PAGE.size
+        ):
+            ends, of = _PAGE.unpack(head)
+            count += ends > 0 and of == salt
+            file.seek(size, os.SEEK_CUR)
+        return count
+
+
 def has_journal(path: str) -> bool:
     """Whether a journal is there that says that a change of the file wasn't ended."""
     journal = journal_path(path)
@@ -236,6 +279,9 @@ def has_journal(path: str) -> bool:
         flags = os.O_RDONLY | os.O_NOFOLLOW | os.O_NONBLOCK
         with open(os.open(journal, flags), "rb") as file:
             return file.read(1) not in (b"", b"\0")
+    except PermissionError:
+        # the program takes one that it can't look at for such a journal
+        return True
     except OSError:
         return False
 
@@ -404,14 +450,17 @@ _LASTING = (
 )
 
 
-def goes_on(earlier: str | PathLike[str], later: str | PathLike[str]) -> bool:
-    """Whether one book has all of another, as after further commands; both were checked.
+def goes_on(
+    earlier: str | PathLike[str], later: str | PathLike[str], changes: int
+) -> bool:
+    """Whether one book has all of another, as after at most so many changes; both were checked.
 
-    It is also said to have all if they can't be compared, as where one is of an older format.
+    If more versions than that lie between them, a change that was made there is in neither. It is
+    also said to have all if they can't be compared, as where one is of an older format.
     """
     try:
         with closing(_whole(earlier)) as before, closing(_whole(later)) as after:
-            if version_in(before) > version_in(after):
+            if not 0 <= version_in(after) - version_in(before) <= changes:
                 return False
             return all(_has_all(before.execute(q), after.execute(q)) for q in _LASTING)
     except sqlite3.Error:

@@ -14,7 +14,7 @@ from typing import TYPE_CHECKING
 from braildesk import opening
 from braildesk.held import copy_held, fit_log, held
 from braildesk.named_files import read_file
-from braildesk.opening import fault_in, goes_on, has_work, waited
+from braildesk.opening import changes_in, fault_in, goes_on, has_work, waited
 from braildesk.protocol.asked import (
     AskedOfFile,
     BookFile,
@@ -51,7 +51,13 @@ _PAUSE = 0.2
 #: What the program isn't asked of at all.
 _NOT_A_BOOK = (Why.COMPUTED, Why.TOO_LONG)
 #: Why a book isn't opened whose log can't be judged, or is to be judged once nobody else has the book.
-_NOT_ASKED = (Why.LOG_OPEN, Why.LOG_OPEN_TO_READ, Why.IN_USE)
+_NOT_ASKED = (
+    Why.LOG_OPEN,
+    Why.LOG_OPEN_TO_READ,
+    Why.LOG_STAYS,
+    Why.IN_USE,
+    Why.NO_LOG,
+)
 _CODE = re.compile(r"(?:braildesk: )?no ([0-9 ]+)")
 #: What it answers of a whole book.
 _CHECKED = re.compile(rb"ok ([0-9]+)\n")
@@ -287,12 +293,13 @@ def _fault_with_log(path: str, log: str, program: str) -> Why | None:
         with held(BookFile(path)) as file:
             copy_held(file, log, both)
             copy_held(file, "", alone)
+        changes = changes_in(f"{both}-wal")
         fault = fault_in(both, is_alone=False)
         if fault in _NOT_A_BOOK:
             return fault
         is_whole = fault is None and _is_book(both, program)
         is_of_another = _is_book(alone, program) and not (
-            is_whole and goes_on(alone, both)
+            is_whole and goes_on(alone, both, changes)
         )
     return Why.OTHER_LOG if is_of_another else fault
 

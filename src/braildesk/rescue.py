@@ -24,6 +24,7 @@ _UNTOLD = frozenset(
         Why.LOG_DENIED,
         Why.LOG_OPEN,
         Why.LOG_OPEN_TO_READ,
+        Why.LOG_STAYS,
         Why.READ_ONLY,
         Why.NO_ROOM,
         Why.OVER_QUOTA,

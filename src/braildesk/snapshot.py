@@ -26,8 +26,9 @@ from braildesk.workshop import give_access, made_for_a_while, open_made
 
 #: How long a file stays as it is before it is copied, so that a later change shows in its times.
 _TICK = 0.02
-#: How long it is tried to copy a book between two moments at which its log is emptied.
-_SECONDS = 10.0
+#: How long it is tried to copy a book between two moments at which its log is emptied, and how often at
+#: least, since a try may take long.
+_SECONDS, _TRIES = 10.0, 5
 #: The header of a log, which is another one once the log was emptied.
 _HEADER = 32
 
@@ -76,14 +77,15 @@ def copied(path: StrPath) -> Iterator[Path]:
 
 def _copy(book: BookFile, copied: Path) -> None:
     """Copies a book and its log until they stayed the same ones meanwhile."""
-    until = time.monotonic() + _SECONDS
+    until, tries = time.monotonic() + _SECONDS, 0
     while True:
         with open_file(book) as file:
             if _is_copied(book, file, copied):
                 return
         for path in (copied, Path(f"{copied}-wal")):
             path.unlink(missing_ok=True)
-        if time.monotonic() > until:
+        tries += 1
+        if time.monotonic() > until and tries >= _TRIES:
             raise cannot_open(book, Why.IN_USE)
 
 

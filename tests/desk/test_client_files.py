@@ -993,6 +993,42 @@ def test_a_log_of_somebody_who_may_not_write_the_book_is_not_taken(
 
 
 @NEEDS_ROOT
+def test_a_log_of_another_that_its_folder_lets_nobody_move_is_left_to_an_administrator(
+    book: Path, tmp_path: Path
+) -> None:
+    lead_to(tmp_path)
+    tmp_path.chmod(0o1777)
+    log, answers = Path(f"{book}-wal"), tmp_path / "answers"
+    killed_after(book, "of the office")
+    os.chown(book, STRANGER, STRANGER)
+    answers.touch()
+    answers.chmod(0o666)
+
+    def ask() -> None:
+        try:
+            Session(book)
+        except CannotOpen as refusal:
+            answers.write_text(f"{refusal.why}: {refusal.sentence}")
+
+    os.chown(log, STRANGER - 1, STRANGER - 1)
+    log.chmod(0o644)
+    assert as_stranger(lambda: log.rename(tmp_path / "away")) == "PermissionError"
+    assert as_stranger(ask) == ""
+    assert answers.read_text() == (
+        f"log open to others and held by its folder: “{log}”, in which the newest work of “{book}”"
+        " is looked for, may be written by people who may not write the book, as after a change of"
+        " its permissions. They may have put something else there, and its folder lets nobody move"
+        " it away but its owner, the owner of the folder and an administrator. Nothing was changed."
+        f" If you know that the work is yours, ask an administrator to make “{log}” yours, and open"
+        " the book again. If you don't, ask for it to be moved away, and go on without it."
+    )
+    os.chown(log, STRANGER, STRANGER)
+    assert as_stranger(lambda: Session(book).close()) == ""
+    with Session(book) as session:
+        assert session.print_of(1) == "of the office"
+
+
+@NEEDS_ROOT
 def test_a_log_without_work_is_made_anew_where_others_could_write_it(
     book: Path, tmp_path: Path
 ) -> None:
@@ -1611,6 +1647,32 @@ def test_work_in_a_copy_is_not_replaced_by_the_log_of_the_book_whose_place_it_to
         session.add_mark(1, 0, 1, "left")
         kill(session)
     copied.replace(book)
+    before = book.read_bytes(), Path(f"{book}-wal").read_bytes()
+    attempts: list[Callable[[], object]] = [
+        lambda: Session(book),
+        lambda: braildesk.check(book),
+        lambda: braildesk.copy(book, tmp_path / "another"),
+    ]
+    for attempt in attempts:
+        with pytest.raises(CannotOpen) as caught:
+            attempt()
+        assert caught.value.why == Why.OTHER_LOG
+    assert (book.read_bytes(), Path(f"{book}-wal").read_bytes()) == before
+
+
+def test_an_older_copy_that_lacks_a_change_made_before_those_of_a_log_is_not_completed_by_it(
+    book: Path, tmp_path: Path
+) -> None:
+    with Session(book) as session:
+        for number in range(60):
+            session.add_paragraph("end", "en", f"line {number} " + "x" * 500)
+    older = Path(shutil.copyfile(book, tmp_path / "older"))
+    with Session(book) as session:
+        session.correct(1, 0, 4, "Line")
+    with Session(book) as session:
+        session.strike(60)
+        kill(session)
+    shutil.copyfile(older, book)
     before = book.read_bytes(), Path(f"{book}-wal").read_bytes()
     attempts: list[Callable[[], object]] = [
         lambda: Session(book),

@@ -122,8 +122,20 @@ SAID: list[tuple[Request[Any], int, dict[str, int], str]] = [
         requests.Move(1, 8),
         2,
         {},
-        "The book has no paragraph 1, or no paragraph 8: it has the paragraphs 1 to 3. Nothing"
-        " was changed.",
+        "The book has no paragraph 8: it has the paragraphs 1 to 3. Nothing was changed.",
+    ),
+    (
+        requests.Move(9, 1),
+        2,
+        {},
+        "The book has no paragraph 9: it has the paragraphs 1 to 3. Nothing was changed.",
+    ),
+    (
+        requests.Move(9, 8),
+        2,
+        {},
+        "The book has no paragraph 9 and no paragraph 8: it has the paragraphs 1 to 3. Nothing was"
+        " changed.",
     ),
     (
         requests.Type("end", "De", "a"),

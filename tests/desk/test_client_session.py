@@ -34,6 +34,7 @@ from braildesk import openfile
 from braildesk.held import copy_held
 from braildesk.pipe import Ending, Pipe
 from braildesk.protocol.replies import Reader, Reply, Unreadable
+from braildesk import session as session_module
 from braildesk.session import session_beside
 from stand_in import KEPT, KILL_PROGRAM, READ, REPLY, WAIT
 from terminal import once_free, standing_in
@@ -1348,6 +1349,32 @@ def test_what_is_in_a_log_that_is_removed_comes_into_the_file(
     shutil.copyfile(book, other)
     with Session(other) as session:
         assert [session.print_of(each.id) for each in session.paragraphs()] == ["One."]
+
+
+@pytest.mark.parametrize("kind", ["folder", "pipe", "link"])
+def test_what_is_put_in_place_of_a_log_as_it_is_opened_is_not_taken_for_it(
+    book: Path, kind: str, monkeypatch: pytest.MonkeyPatch
+) -> None:
+    version_of, log = session_module._first_version, log_of(book)
+
+    def swapped(*given: Any) -> int:
+        found: int = version_of(*given)
+        log.unlink()
+        if kind == "folder":
+            log.mkdir()
+        elif kind == "pipe":
+            os.mkfifo(log)
+        else:
+            log.symlink_to("elsewhere")
+        return found
+
+    with monkeypatch.context() as patched:
+        patched.setattr(session_module, "_first_version", swapped)
+        session = Session(book)
+    assert session.version() == 1
+    with pytest.raises(SessionEnded, match="was removed or replaced while it was open"):
+        session.add_paragraph("end", "en", "lost if the program is killed")
+    assert not log.with_name("elsewhere").exists()
 
 
 def test_a_log_that_is_removed_while_many_commands_are_sent_costs_none_that_was_kept(

@@ -13,7 +13,7 @@ import pytest
 import braildesk
 from braildesk import CannotOpen, Refused, Session, Why, limits, opening
 from braildesk.opening import fault_in, reader
-from strangers import in_time
+from strangers import NEEDS_ROOT, STRANGER, as_stranger, in_time, lead_to
 from tool import scribe
 
 ENDLESS = (
@@ -246,6 +246,25 @@ def test_a_list_of_very_many_tables_is_not_read_to_its_end(book: Path) -> None:
     assert ran.said.startswith(f"The list of the tables in “{book.name}” can't be read")
 
 
+@pytest.mark.parametrize("how", ["encoding = 'UTF-16le'", "auto_vacuum = FULL"])
+def test_a_book_in_a_form_that_no_program_here_reads_is_said_to_be_one(
+    book: Path, how: str
+) -> None:
+    other = book.with_name("other")
+    with closing(sqlite3.connect(book)) as own, closing(sqlite3.connect(other)) as made:
+        made.execute(f"PRAGMA {how}")
+        made.executescript("\n".join(own.iterdump()))
+    before = other.read_bytes()
+    with pytest.raises(CannotOpen) as caught:
+        Session(other)
+    assert caught.value.why is Why.UNKNOWN
+    assert caught.value.sentence.endswith(
+        " If all of that is so, it has a form that braildesk doesn't read: ask whoever made it, or"
+        " go on with an earlier copy."
+    )
+    assert other.read_bytes() == before
+
+
 def test_what_else_stands_in_the_file_of_a_book_is_left_alone(book: Path) -> None:
     altered(
         book,
@@ -284,7 +303,34 @@ def test_a_journal_beside_a_book_is_never_put_into_it(book: Path, kind: str) -> 
     assert braildesk.check(book) == 1
 
 
-@pytest.mark.parametrize("kind", ["pipe", "link", "folder"])
+@NEEDS_ROOT
+def test_a_journal_that_may_not_be_read_is_named(book: Path, tmp_path: Path) -> None:
+    lead_to(tmp_path)
+    own, said = tmp_path / "own", tmp_path / "said"
+    own.mkdir()
+    own.chmod(0o777)
+    moved = Path(shutil.move(book, own))
+    os.chown(moved, STRANGER, STRANGER)
+    Path(f"{moved}-journal").touch(0o600)
+    said.touch()
+    said.chmod(0o666)
+
+    def look() -> None:
+        attempts: list[Callable[[], object]] = [
+            lambda: Session(moved),
+            lambda: braildesk.copy(moved, own / "copy"),
+        ]
+        for attempt in attempts:
+            with pytest.raises(CannotOpen) as caught:
+                attempt()
+            with said.open("a") as file:
+                file.write(f"{caught.value.why}\n")
+
+    assert as_stranger(look) == ""
+    assert said.read_text() == "journal\njournal\n"
+
+
+@pytest.mark.parametrize("kind", ["pipe", "link", "folder", "book"])
 def test_what_has_the_name_of_a_log_and_is_none_is_named(book: Path, kind: str) -> None:
     log = Path(f"{book}-wal")
     attempts: list[Callable[[Path], object]] = [Session, braildesk.check]
@@ -293,17 +339,22 @@ def test_what_has_the_name_of_a_log_and_is_none_is_named(book: Path, kind: str) 
         os.mkfifo(log)
     elif kind == "link":
         log.symlink_to("elsewhere")
-    else:
+    elif kind == "folder":
         log.mkdir()
+    else:
+        braildesk.copy(book, log)
     for attempt in attempts:
         with pytest.raises(CannotOpen) as caught:
             attempt(book)
         assert caught.value.sentence == (
-            f"What stands at “{log}” is no file of its own, but a link, a folder, a pipe or another"
-            f" such thing, and the newest work of “{book}” would be looked for there. Nothing was"
-            " changed. Move it away."
+            f"What stands at “{log}” is no log of its own, but a link, a folder, a pipe, a book or"
+            f" another such thing, and the newest work of “{book}” would be looked for there."
+            " Nothing was changed. Move it away, or ask an administrator to do so where its"
+            " folder doesn't let you."
         )
     assert not book.with_name("elsewhere").exists()
+    if kind == "book":
+        assert braildesk.check(log) == 1
 
 
 @pytest.mark.parametrize("is_alone", [True, False])

@@ -147,6 +147,25 @@ def test_a_text_that_was_typed_before_or_while_its_folder_was_renamed_is_offered
     assert waits and waits.text == "On."
 
 
+def test_a_text_is_kept_once_for_a_book_whose_folder_was_renamed_while_it_was_open(
+    in_folder: Path,
+) -> None:
+    drafts = Drafts(in_folder)
+    drafts.save(NOTE)
+    folder = in_folder.parent.rename(in_folder.parent.with_name("books2"))
+    moved = folder / in_folder.name
+    drafts.copy_to(moved)
+    # who types on after that
+    drafts.save(replace(NOTE, text="On."))
+    again = Drafts(moved)
+    again.take_in()
+    waits = again.waiting()
+    assert waits and waits.text == "On."
+    again.clear()
+    again.take_in()
+    assert again.waiting() is None
+
+
 def test_a_text_is_not_offered_for_a_copy_in_another_folder(
     in_folder: Path, sit: Sit
 ) -> None:

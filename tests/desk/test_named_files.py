@@ -130,6 +130,19 @@ def test_a_device_is_refused(path: str) -> None:
         open_file(path)
 
 
+def test_a_file_of_the_system_that_would_have_to_be_waited_for_is_refused(
+    tmp_path: Path, monkeypatch: pytest.MonkeyPatch
+) -> None:
+    reader, writer = os.pipe()
+    os.set_blocking(reader, False)
+    # as of the system's log, which is a file by what is said of it
+    given = open(reader, "rb")
+    monkeypatch.setattr("braildesk.named_files.open_file", lambda path: given)
+    with pytest.raises(NoFile, match="it would have to be waited for"):
+        read_file(tmp_path / "kmsg", 10)
+    os.close(writer)
+
+
 def test_a_socket_is_refused(tmp_path: Path) -> None:
     with socket.socket(socket.AF_UNIX) as made:
         made.bind(str(tmp_path / "s"))

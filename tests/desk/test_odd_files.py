@@ -328,5 +328,6 @@ def test_a_log_that_may_not_be_read_is_said_to_be_denied(
     assert found.status == 2
     assert " ".join(found.said.split()) == (
         f"You aren't permitted to read and write “{log}”, in which the newest work of “{book}” is"
-        f" looked for. Nothing was changed. Ask who owns “{log}” for leave to do so."
+        f" looked for. Nothing was changed. Ask who owns “{log}”, or an administrator, for leave to"
+        " do so."
     )

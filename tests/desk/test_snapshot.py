@@ -105,6 +105,26 @@ def test_a_book_is_copied_once_more_where_its_log_is_emptied_between_file_and_lo
     assert emptied == [True]
 
 
+def test_a_book_is_copied_once_more_however_long_a_copy_takes(
+    moon: Path, monkeypatch: pytest.MonkeyPatch
+) -> None:
+    tried: list[bool] = []
+
+    def taken_long(file: BinaryIO, log: str, made: Path) -> os.stat_result:
+        """Copies a book whose log is emptied meanwhile, but for the last time."""
+        found = copy_held(file, log, made)
+        tried.append(True)
+        if len(tried) < 3:
+            os.utime(moon)
+        return found
+
+    monkeypatch.setattr(own, "_SECONDS", 0)
+    monkeypatch.setattr(own, "copy_held", taken_long)
+    with Session(moon) as session, snapshot(moon) as now:
+        assert check(now) == session.last_version
+    assert len(tried) == 3
+
+
 def test_a_snapshot_leaves_nothing_and_changes_nothing(moon: Path) -> None:
     folder = moon.parent
     with Session(moon) as session:

@@ -7,6 +7,7 @@ from pathlib import Path
 
 import pytest
 
+from braildesk import Session
 from braildesk.desk.whole_file import (
     Access,
     AnotherIsThere,
@@ -239,6 +240,21 @@ def test_a_book_is_not_replaced_by_what_is_written_about_it(moon: Path) -> None:
         f"{moon.name} could not be written: a book is there, which was left as it is.\n",
     )
     assert moon.read_bytes() == before
+
+
+def test_a_log_is_not_replaced_since_it_may_have_what_its_book_lacks(
+    moon: Path,
+) -> None:
+    with Session(moon) as session:
+        session.add_paragraph("end", "en", "In the log alone.")
+        log = Path(f"{moon}-wal")
+        before = log.read_bytes()
+        with pytest.raises(NoPlaceForAFile) as caught:
+            write_whole(log, b"pages")
+        assert caught.value.strerror == (
+            "the log of a book is there, which was left as it is"
+        )
+        assert log.read_bytes() == before
 
 
 @NEEDS_ROOT

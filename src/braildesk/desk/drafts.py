@@ -7,7 +7,7 @@ path; they say that path, and the identity of the book's file.
 
 import json
 import os
-from collections.abc import Callable, Mapping
+from collections.abc import Callable, Mapping, Sequence
 from contextlib import suppress
 from dataclasses import asdict, dataclass
 from enum import Enum
@@ -40,6 +40,8 @@ except ImportError:
 MOST_GIVEN_UP = 10
 #: How many imports that were cut short are noted for a book.
 MOST_IMPORTS = 10
+#: How many lines that were broken off are kept for a book.
+MOST_LINES = 10
 _Kept = TypeVar("_Kept")
 
 
@@ -55,6 +57,7 @@ class Begun(Enum):
     UNREAD = "unread"
     WORDS = "words"
     ANSWERS = "answers"
+    LINES = "lines"
 
 
 @dataclass(frozen=True, eq=False, repr=False)
@@ -246,6 +249,24 @@ class Drafts:
         values = {name: written(text) for name, text in answers.items()}
         self._write(Begun.ANSWERS, {"answers": values})
 
+    def lines(self) -> tuple[str, ...]:
+        """Lines of a conversation that were broken off; what can't be read is no fault."""
+        try:
+            data = self._folder.read(self._name(Begun.LINES))
+            return (
+                () if data is None else tuple(Record.of(data).text("lines").split("\n"))
+            )
+        except (NotSuch, OSError):
+            return ()
+
+    def keep_lines(self, lines: Sequence[str]) -> None:
+        """Keeps the last of such lines, in place of those that were; nothing is kept of none."""
+        if lines:
+            kept = "\n".join(lines[-MOST_LINES:])
+            self._write(Begun.LINES, {"lines": written(kept)})
+        else:
+            self._remove(Begun.LINES)
+
     def begin_import(self, note: ImportNote) -> None:
         """Notes an import before its first paragraph is typed, in place of others of its text."""
         others = (each for each in self.imports() if not each.is_of(note))
@@ -336,9 +357,18 @@ class Drafts:
                     self._folder.rename(name, its)
                     return
 
-    def copy_to(self, book: Path) -> None:
-        """Keeps for another book all that is kept for this one, which was saved there."""
+    def copy_to(self, book: Path, before: Draft | None = None) -> None:
+        """Keeps for another book all that is kept for this one, which was saved there.
+
+        The text that waited before, and was copied, doesn't wait there once it doesn't here. If the
+        book was moved there, it takes all over by itself as it is opened.
+        """
         other = Drafts(book)
+        if self._file is not None and other._file == self._file:
+            return
+        with suppress(NotKept):
+            if before and not self.waiting() and other.waiting() == before:
+                other.clear()
         for what in Begun:
             # what can't be read or kept there is kept for this book still
             with suppress(NotSuch, OSError, NotSaved):

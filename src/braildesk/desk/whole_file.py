@@ -17,6 +17,8 @@ from braildesk.workshop import gives_lists, limit_group, mode_of, sync_names
 
 ANYONE = 0o666
 _OF_THE_SYSTEM = ("/dev/", "/proc/")
+#: The bytes at the front of a log, by its two orders of bytes.
+_LOGS = (b"\x37\x7f\x06\x82", b"\x37\x7f\x06\x83")
 #: The name of a file that is written and has its own name only then.
 _BESIDE = re.compile(r"\.scribe-[0-9a-f]{16}")
 # what is said of a name that has nothing, or a link or a pipe, since it was looked at
@@ -73,8 +75,8 @@ def write_whole(
     when that file gets the name. If anything fails before that, what had the name is as it was;
     `MayNotLast` comes after it. The name alone is replaced: a link there is gone and the file that
     it led to stays as it was, and a pipe of that name isn't opened. A file of one's own keeps its
-    permissions to read and write. Any other gets what is said here and the umask allows. A book is
-    never replaced, nor, with `AnotherIsThere`, what may not be by its front, if that is asked, unless
+    permissions to read and write. Any other gets what is said here and the umask allows. A book or a
+    log is never replaced, nor, with `AnotherIsThere`, what may not be by its front, if that is asked, unless
     it is an empty file, as `mktemp` makes one.
     """
     path = path if path.name else path.resolve()
@@ -151,6 +153,10 @@ def _kept_permissions(name: str, folder: int, replaces: Replaces | None) -> int 
     if head.startswith(MAGIC):
         # which nobody means when pages or a table are written
         raise NoPlaceForAFile(errno.EINVAL, "a book is there, which was left as it is")
+    if head.startswith(_LOGS):
+        # it may have what its book lacks
+        why = "the log of a book is there, which was left as it is"
+        raise NoPlaceForAFile(errno.EINVAL, why)
     is_empty = is_file and not (older.st_size or head)
     if not (replaces is None or is_empty or is_file and replaces(head)):
         is_link = stat.S_ISLNK(older.st_mode)
@@ -166,7 +172,8 @@ def _head(name: str, folder: int) -> bytes:
     flags = os.O_RDONLY | os.O_NOFOLLOW | os.O_NONBLOCK | os.O_CLOEXEC
     try:
         with open(os.open(name, flags, dir_fd=folder), "rb") as file:
-            return file.read(_HEAD_BYTES)
+            # nothing where the system keeps a file that would have to be waited for
+            return file.read(_HEAD_BYTES) or b""
     except OSError as error:
         if error.errno in _ANOTHER:
             return b""

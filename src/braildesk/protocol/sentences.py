@@ -23,6 +23,7 @@ class Why(StrEnum):
     LOG_DENIED = "log not permitted"
     LOG_OPEN = "log open to others"
     LOG_OPEN_TO_READ = "log open to others than this reader"
+    LOG_STAYS = "log open to others and held by its folder"
     NO_DATABASE = "no database"
     READ_ONLY = "read-only"
     NO_ROOM = "no room"
@@ -156,7 +157,7 @@ UNOPENED = MappingProxyType(
         Why.DENIED: "You aren't permitted to open {path}. {nothing} Ask who owns it"
         " for leave to read and write it and to write in its folder.",
         Why.LOG_DENIED: "You aren't permitted to read and write {log}, in which the newest work of"
-        " {path} is looked for. {nothing} Ask who owns {log} for leave to do so.",
+        " {path} is looked for. {nothing} Ask who owns {log}, or an administrator, for leave to do so.",
         Why.LOG_OPEN: "{log}, in which the newest work of {path} is looked for, may be written by people"
         " who may not write the book, as after a change of its permissions. They may have put"
         " something else there. {nothing} If you know that the work is yours, take it by this command,"
@@ -164,6 +165,12 @@ UNOPENED = MappingProxyType(
         Why.LOG_OPEN_TO_READ: "{log}, in which the newest work of {path} is looked for, may be written by"
         " people who may not write the book, as after a change of its permissions. They may have put"
         " something else there. {nothing} Ask somebody who may write {path} to open it.",
+        Why.LOG_STAYS: "{log}, in which the newest work of {path} is looked for, may be written by people"
+        " who may not write the book, as after a change of its permissions. They may have put"
+        " something else there, and its folder lets nobody move it away but its owner, the owner of"
+        " the folder and an administrator. {nothing} If you know that the work is yours, ask an"
+        " administrator to make {log} yours, and open the book again. If you don't, ask for it to be"
+        " moved away, and go on without it.",
         Why.READ_ONLY: "{path} is on a disk that can only be read, and a book is opened where it can"
         " be written. {nothing} Copy the book to another disk.",
         Why.NO_ROOM: "There is no room on the disk of {path}. {nothing} Make room there,"
@@ -180,9 +187,9 @@ UNOPENED = MappingProxyType(
         " and with it would be damaged or lose what it has. It may be that another file was put in"
         " the place of the book. {nothing} Keep both files; to go on with {path} as it"
         " is, move {log} away.",
-        Why.NO_LOG: "What stands at {log} is no file of its own, but a link, a folder, a pipe or"
-        " another such thing, and the newest work of {path} would be looked for there. {nothing}"
-        " Move it away.",
+        Why.NO_LOG: "What stands at {log} is no log of its own, but a link, a folder, a pipe, a book"
+        " or another such thing, and the newest work of {path} would be looked for there. {nothing}"
+        " Move it away, or ask an administrator to do so where its folder doesn't let you.",
         Why.LONG_NAME: "The path {path} is too long for a book: that of its log, which ends in -wal"
         " besides, can't be made. {nothing} Give the file a shorter name.",
         Why.JOURNAL: "Beside {path} lies {journal}, which braildesk never makes: another program"
@@ -206,7 +213,8 @@ UNOPENED = MappingProxyType(
         Why.NO_PATH: "{path} can't be a path for braildesk, which takes those in UTF-8 alone.",
         Why.UNKNOWN: "{path} could not be opened. Check that the path is right, that the file may"
         " be read and written, that its folder may be written in, that there is room on the disk,"
-        " and that no other program has the file open.",
+        " and that no other program has the file open. If all of that is so, it has a form that"
+        " braildesk doesn't read: ask whoever made it, or go on with an earlier copy.",
     }
 )
 

@@ -116,10 +116,18 @@ class _Fields:
             case requests.Move(
                 paragraph=paragraph, after=int(after)
             ) if after != paragraph:
-                return f"{paragraph}, or no paragraph {after}"
+                return self._of_two(paragraph, after)
             case requests.OfParagraph(paragraph=paragraph):
                 return str(paragraph)
         return "of this number"
+
+    def _of_two(self, first: int, second: int) -> str:
+        """Which of two paragraphs the book lacks, if it was looked up which it has."""
+        count = self._refusal.count
+        known = range(1, count + 1) if count is not None else ()
+        lacking = [str(each) for each in (first, second) if each not in known]
+        either = " and" if count is not None else ", or"
+        return f"{either} no paragraph ".join(lacking)
 
     @property
     def there(self) -> str:

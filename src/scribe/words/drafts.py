@@ -27,6 +27,7 @@ _BEGUN = {
     Begun.UNREAD: "What is typed meanwhile",
     Begun.WORDS: "What is typed to change words",
     Begun.ANSWERS: "What is typed as an answer",
+    Begun.LINES: "What is typed at the prompt",
 }
 
 

@@ -1,5 +1,6 @@
 """What of a document a book can't hold, in words: by kind, with how often and where."""
 
+import re
 from collections import Counter
 from collections.abc import Iterator, Sequence
 from pathlib import Path
@@ -12,6 +13,14 @@ from braildesk.text.characters import visible
 
 #: How many places of a kind are shown if not all of them are.
 FEW = 5
+#: What a report begins with, of a document and of a text, by what is written below.
+_REPORT = re.compile(
+    r"[^\n]+ is read as [^\n]+: [\d,]+ paragraphs?, [^\n]*headings\.\n"
+    r"|“[^\n]+” (is replaced by|is left out|stands nowhere)[^\n]*\.\n"
+    r"|[^\n]+ is a text\.\n\Z"
+)
+#: How many bytes that has at most, with the longest path.
+_FRONT_BYTES = 8_192
 _NAMES = {
     ManuscriptKind.TEXT: "text",
     ManuscriptKind.MARKDOWN: "Markdown",
@@ -140,6 +149,12 @@ _SAID = {
 def kind_name(kind: ManuscriptKind) -> str:
     """What people call a kind of manuscript."""
     return _NAMES[kind]
+
+
+def is_report(head: bytes) -> bool:
+    """Whether a file begins as a report does."""
+    front = head[:_FRONT_BYTES].decode(errors="replace")
+    return _REPORT.match(front) is not None
 
 
 def report_lines(path: Path, taken: Taken, most: int | None = None) -> list[str]:
