@@ -18,7 +18,8 @@ from tool import ROOT
 pytestmark = pytest.mark.usefixtures("patient")
 
 WAITS = "What was typed and isn't in the book is kept, and is offered when the book is next opened. "
-HUNG_UP, SIGNALS = "hung up", ["SIGHUP", "SIGTERM", "SIGHUP SIGTERM"]
+HUNG_UP, SIGNALS = "hung up", ["SIGHUP", "SIGTERM", "SIGQUIT", "SIGHUP SIGTERM"]
+TOLD = ("SIGTERM", "SIGQUIT")
 WAYS = [HUNG_UP, *SIGNALS]
 
 
@@ -37,8 +38,8 @@ def check_has_ended(terminal: Terminal, way: str, waits: str = "") -> None:
     Who can still read it reads whether a text waits.
     """
     status = terminal.left() if way == HUNG_UP else terminal.ended()
-    assert status == (-signal.SIGTERM if way == "SIGTERM" else 3)
-    assert terminal.said.replace("\n", " ") == (waits if way == "SIGTERM" else "")
+    assert status == (-signal.Signals[way] if way in TOLD else 3)
+    assert terminal.said.replace("\n", " ") == (waits if way in TOLD else "")
     assert b"Traceback" not in terminal.written
     assert b"Unhandled" not in terminal.written
 
@@ -201,7 +202,7 @@ def test_a_fault_of_scribe_ends_the_screen_in_words_and_keeps_what_is_typed(
     terminal.wait("Oh, The moon is far away.")
     terminal.paste("The sun")
     assert terminal.ended() == 3
-    assert terminal.said.startswith(
+    assert terminal.said.replace("\n", " ").startswith(
         "scribe has a fault of its own and stopped (KeyError, sitecustomize.py line 5). What was"
         " reported as kept is in the book,"
     )
@@ -239,7 +240,7 @@ def test_a_text_that_can_not_be_kept_at_the_end_is_said(moon: Path, at: Open) ->
 
 
 @pytest.mark.parametrize("is_seen", [True, False])
-def test_a_text_that_can_not_be_kept_is_said_beside_where_the_book_was_saved(
+def test_a_text_that_can_not_be_kept_is_said_beside_where_a_book_was_saved_without_it(
     moon: Path, at: Open, is_seen: bool
 ) -> None:
     terminal = at(moon, XDG_STATE_HOME="/proc/nowhere")
@@ -257,7 +258,9 @@ def test_a_text_that_can_not_be_kept_is_said_beside_where_the_book_was_saved(
     # a path may be parted at the end of a line
     said = "".join(terminal.said.split())
     assert f"isinthenewfile“{moon}-saved-1”." in said
-    assert said.count("Oh,TheTides") == 1
+    assert said.count("Oh,TheTides") == (0 if is_seen else 1)
+    assert ("Whatwastypedlastisinit." in said) is is_seen
+    assert ("can'tbekept" in said) is not is_seen
 
 
 def test_who_types_on_where_the_session_ends_does_not_end_scribe(

@@ -329,7 +329,8 @@ def test_a_table_is_put_into_an_empty_book_and_the_first_paragraph_typed(
     sat.press("o")
     assert "The book has no table yet. t chooses one." in sat.lines
     sat.press("t", "x", "y", "enter")
-    assert "There is no table xy in" in " ".join(sat.lines)
+    said = "There is no table xy. Nothing was changed. The book has no table yet."
+    assert said in " ".join(sat.lines)
     sat.press("t", "e", "n", "enter")
     assert sat.lines[0] == "empty.braildesk, version 1, table en, last kept: table en"
     sat.press("o")

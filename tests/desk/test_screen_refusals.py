@@ -7,7 +7,6 @@ from pathlib import Path
 import pytest
 
 from braildesk import Session
-from braildesk.desk.tables import FOLDER
 from sitting import Sat, Sit
 from stand_in import READ, REPLY
 from terminal import standing_in
@@ -41,13 +40,13 @@ SAID = {
     ),
     "a table that isn't there": (
         "t x y enter",
-        f"There is no table xy in {FOLDER}. Nothing was changed. Without a file a table may be:"
-        " en, ueb. Another is put into a book by: scribe table BOOK NAME FILE",
+        "There is no table xy. Nothing was changed. The book has the tables en, plain. t puts one of"
+        " these into it: ueb. Another is put into a book by: scribe table BOOK NAME FILE",
     ),
     "a name that no table has": (
         "t X enter",
-        f"There is no table X in {FOLDER}. Nothing was changed. Without a file a table may be:"
-        " en, ueb. Another is put into a book by: scribe table BOOK NAME FILE",
+        "There is no table X. Nothing was changed. The book has the tables en, plain. t puts one of"
+        " these into it: ueb. Another is put into a book by: scribe table BOOK NAME FILE",
     ),
     "a paragraph that isn't there": (
         "g 9 enter",

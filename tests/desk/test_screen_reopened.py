@@ -432,12 +432,11 @@ def test_a_command_to_a_book_that_is_gone_from_its_path_is_not_shown_as_kept(
     assert sat.state.kept == "kept: paragraph 1 struck"
     saved = moon.with_name("moon.braildesk-saved-1")
     assert sat.state.is_lost and sat.state.pages
-    assert sat.state.pages.lines[:3] == (
+    assert sat.state.pages.lines == (
         f"The file of the book is no longer at “{moon}”: it was removed or moved while it was open."
         " All of the book, with what was kept last, is in the new file"
         f" “{saved}”. Go on with that one, or look first what is at the old path by now.",
-        "This was typed, and was not reported as kept:",
-        "Soon.",
+        "What was typed last is in it.",
     )
     with Session(saved) as session:
         assert session.print_of(4) == "Soon."
@@ -679,28 +678,68 @@ def test_an_import_is_reported_where_the_session_ends_that_comes_after_it(
     assert is_lost or "it is at version 9" in said
 
 
-@pytest.mark.parametrize("is_seen", [True, False])
+def gone(book: Path, is_moved: bool) -> Path:
+    """Removes a book, or renames its folder, and gives the file in which it is by then."""
+    if is_moved:
+        return book.parent.rename(book.parent.with_name("older")) / book.name
+    book.unlink()
+    return book.with_name(f"{book.name}-saved-1")
+
+
+@pytest.mark.parametrize("is_moved", [True, False])
+@pytest.mark.parametrize("begun", ["enter", "o", "m"])
+def test_what_is_in_a_book_that_is_gone_is_said_to_be_and_does_not_wait(
+    moon: Path, sit: Sit, begun: str, is_moved: bool
+) -> None:
+    (folder := moon.with_name("books")).mkdir()
+    moon = moon.rename(folder / moon.name)
+    sat = sit(moon)
+    sat.press("s", "down", begun)
+    sat.write("Es war ")
+    sat.state = sat.desk.save_draft(sat.state)
+    there = gone(moon, is_moved)
+    sat.press("enter")
+    assert sat.state.is_lost and sat.state.pages
+    assert sat.state.pages.lines[1:] == ("What was typed last is in it.",)
+    assert not sat.desk.has_waiting and sat.desk.drafts.waiting() is None
+    again = sit(there)
+    assert again.state.question is None and again.desk.drafts.waiting() is None
+    assert again.state.version == 9
+
+
 def test_what_was_typed_is_offered_in_the_file_in_which_a_book_was_saved_that_is_gone(
-    moon: Path, sit: Sit, is_seen: bool
+    moon: Path, sit: Sit
 ) -> None:
     sat = sit(moon)
     sat.press("s", "o")
     sat.write("Es war")
     sat.state = sat.desk.save_draft(sat.state)
-    moon.unlink()
-    if is_seen:
-        sat.press("enter")
-        said = " ".join(sat.state.pages.lines if sat.state.pages else ())
-        assert "It is kept, and is offered when that new file is opened." in said
-    else:
-        with pytest.raises(Displaced):
-            sat.desk.close()
-    again = sit(moon.with_name("moon.braildesk-saved-1"))
+    saved = gone(moon, is_moved=False)
+    with pytest.raises(Displaced):
+        sat.desk.close()
+    again = sit(saved)
     asked = again.state.question
-    if is_seen:
-        # it was kept there before it was seen that the file was gone
-        assert again.state.message.startswith("What was typed last is in the book")
-    else:
-        assert asked and "isn't in the book: “Es war”." in asked.sentence
-        again.press("y", "enter")
+    assert asked and "isn't in the book: “Es war”." in asked.sentence
+    again.press("y", "enter")
     assert prints(again)[1] == "Es war"
+
+
+@pytest.mark.parametrize("is_moved", [True, False])
+def test_lines_that_a_book_lacks_that_is_gone_are_offered_where_it_is(
+    moon: Path, sit: Sit, is_moved: bool
+) -> None:
+    (folder := moon.with_name("books")).mkdir()
+    moon = moon.rename(folder / moon.name)
+    sat = sit(moon)
+    sat.press("o")
+    sat.state = sat.desk.paste(sat.state, "It rose.\nIt set.")
+    there = gone(moon, is_moved)
+    sat.press("y")
+    assert sat.state.is_lost and sat.state.pages
+    said = sat.state.pages.lines[-1]
+    assert said.startswith("It is kept, and is offered when that new file is opened.")
+    again = sit(there)
+    asked = again.state.question
+    assert asked and "isn't in the book: “It set.”." in asked.sentence
+    again.press("y", "enter")
+    assert prints(again)[1:3] == ["It rose.", "It set."]

@@ -136,6 +136,26 @@ def test_places_are_changed_and_left_one_by_one(tides: Path, sit: Sit) -> None:
     assert prints(tides) == ["The tide", TIDES.replace("The tide", "The flood")]
 
 
+def test_places_that_were_changed_or_left_before_all_the_others_are_counted_too(
+    tides: Path, sit: Sit
+) -> None:
+    sat = sit(tides)
+    asked(sat, "tide", "flood")
+    sat.press("down", "n", "y", "a")
+    assert sat.state.pages and sat.state.pages.lines == (
+        "“tide” was replaced by “flood” in 2 places of 1 paragraph.",
+        "1 place stays as before.",
+        f"The book is at version {sat.state.version}.",
+    )
+    # and what the last key did is taken back alone
+    sat.press("escape", "u")
+    assert sat.state.message == (
+        "Taken back: “tide” was replaced by “flood” in 1 place of 1 paragraph."
+    )
+    sat.desk.close()
+    assert prints(tides) == ["The tide", TIDES.replace("The tide", "The flood")]
+
+
 @pytest.mark.parametrize("size", [Size(24, 16), Size(200, 60)])
 def test_a_terminal_of_another_size_has_the_same_place_under_the_cursor(
     tides: Path, sit: Sit, size: Size

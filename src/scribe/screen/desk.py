@@ -3,6 +3,7 @@
 import signal
 from collections.abc import Callable, Sequence
 from dataclasses import replace
+from functools import partial
 from pathlib import Path
 from typing import Any
 
@@ -20,7 +21,7 @@ from braildesk.desk.correction import place_kept, smallest_correction
 from braildesk.desk.draft import Aim, Draft, Unread
 from braildesk.desk.drafts import Drafts, LeftAt, NotKept
 from braildesk.desk.highlighting import cells_of_marks
-from braildesk.desk.tables import table_request
+from braildesk.desk.tables import NoSuchTable, table_request
 from braildesk.protocol.requests import Command
 from braildesk.text.characters import visible
 from braildesk.text.spans import Span
@@ -614,9 +615,30 @@ class Desk:
 
     def _displaced(self, state: State, lost: Displaced) -> State:
         """What the screen says if what was kept isn't in the file that stands at the path now."""
+        state, said = replace(state, is_displaced=True), [lost.sentence]
+        if lost.saved is not None and self._is_in(Path(lost.saved), state):
+            # it waits neither here nor there, whatever was in the way of that
+            state = replace(without_typed(state), question=None)
+            state = self.saved(state.saying(""))
+            said.append("What was typed last is in it.")
         self._follow(lost)
-        state = replace(state, is_displaced=True)
-        return self._ended(state, lost.sentence, is_saved=lost.saved is not None)
+        return self._ended(state, *said, is_saved=lost.saved is not None)
+
+    def _is_in(self, saved: Path, state: State) -> bool:
+        """Whether the file that has all of a book which is gone has all that is typed, too."""
+        draft = draft_of(state)
+        if draft is None:
+            return False
+        look = partial(Session, saved, while_waiting=lambda: self.while_waiting())
+        try:
+            # what is left of the session before may have the file for another moment
+            with look(timeout=max(self._wait, aftermath.PATIENCE)) as session:
+                book, version = session.paragraphs(), session.last_version
+                found = replace(state, book=book, version=version)
+                is_there = bool(where_kept(session, found, draft))
+                return is_there and unkept(session, found, draft) is None
+        except (DeskError, OSError):
+            return False
 
     def _follow(self, lost: Displaced) -> None:
         """Has what isn't in the book be offered where all of the book was saved."""
@@ -889,7 +911,7 @@ class Desk:
         """Puts an installed table into the book if it has none of that name, then gives it."""
         is_new = name not in state.tables
         if is_new:
-            request = table_request(name, None)
+            request = _table_put_in(state, name)
             text = request.text if isinstance(request, requests.Table) else None
             answer = self._session.ask(replace(request, expect=state.version))
             self.tables.put(name, text)
@@ -1000,6 +1022,14 @@ class Desk:
             f"Once nothing is typed any more, U brings back the {what} after this one."
         )
         return self.saved(state.saying_too(fault or back))
+
+
+def _table_put_in(state: State, name: str) -> requests.Table | requests.Supply:
+    """The request that puts an installed table into the book; Stop if there is none of that name."""
+    try:
+        return table_request(name, None)
+    except NoSuchTable as none:
+        raise Stop(typing_keys.no_such_table(state, none)) from none
 
 
 def preview_of(state: State, typed: Field) -> tuple[str, str, str]:

@@ -102,6 +102,13 @@ class _Input(Vt100Input):
 
 # what a terminal that was closed answers
 _CLOSED = (errno.EIO, errno.EBADF)
+_SIGNALS = (
+    signal.SIGHUP,
+    signal.SIGTERM,
+    signal.SIGINT,
+    signal.SIGQUIT,
+    signal.SIGXCPU,
+)
 
 
 class HungUp(Exception):
@@ -284,7 +291,7 @@ class Screen:
             if not loop.is_closed():
                 loop.call_soon_threadsafe(leave)
 
-        for number in (signal.SIGHUP, signal.SIGTERM, signal.SIGINT, signal.SIGXCPU):
+        for number in _SIGNALS:
             signal.signal(number, ended)
         signal.signal(
             signal.SIGCONT, lambda *_: loop.call_soon_threadsafe(self._show_again)

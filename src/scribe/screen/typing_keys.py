@@ -5,6 +5,7 @@ from dataclasses import replace
 from braildesk import After, requests
 from braildesk.desk.change_all import Replacement
 from braildesk.desk.correction import smallest_correction, with_typed
+from braildesk.desk.tables import NoSuchTable
 from braildesk.text import limits
 from braildesk.text.characters import control_refused
 from braildesk.text.sequences import composed, parted
@@ -273,6 +274,22 @@ def table_of_new(state: State) -> str | None:
 
 def no_table(state: State) -> str:
     """That a table has to be chosen for what is new."""
-    names = ", ".join(state.tables)
-    what = f"has the tables {names}" if names else "has no table yet"
-    return f"The book {what}. t chooses one."
+    return f"{_tables_of(state)}. t chooses one."
+
+
+def no_such_table(state: State, none: NoSuchTable) -> str:
+    """That there is no table of a name, with those that the book has before those it may get."""
+    others = [name for name in none.names if name not in state.tables]
+    installed = f" t puts one of these into it: {', '.join(others)}." if others else ""
+    return (
+        f"There is no table {none.name}. Nothing was changed. {_tables_of(state)}.{installed}"
+        " Another is put into a book by: scribe table BOOK NAME FILE"
+    )
+
+
+def _tables_of(state: State) -> str:
+    """Which tables the book has, at the front of a sentence."""
+    if not state.tables:
+        return "The book has no table yet"
+    what = "table" if len(state.tables) == 1 else "tables"
+    return f"The book has the {what} {', '.join(state.tables)}"

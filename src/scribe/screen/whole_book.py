@@ -10,6 +10,7 @@ from typing import Any
 from braildesk import Mark, Refused, Session, requests
 from braildesk.desk.change import Change, change_place
 from braildesk.desk.change_all import (
+    Passed,
     Replacement,
     change_proposed,
     moved_by,
@@ -241,7 +242,7 @@ def _one_changed(
 ) -> State:
     """Changes one of the places, and goes on with the next one that is open."""
     its = offer.places[nth].proposal
-    if its.after[0] == its.text:
+    if not its.changes:
         return state.saying("The print there would stay the same.")
     number, text, by = its.paragraph, its.text, offer.wanted.by
     try:
@@ -264,6 +265,7 @@ def _all_changed(
 ) -> State:
     """Changes all places that are listed, and says which were refused and why."""
     count, places = Count(offer.wanted), offer.open_places
+    of_list = _done_before(offer)
     marks: list[Mark] = []
     back: list[Command[Any]] = []
     said = ""
@@ -272,6 +274,7 @@ def _all_changed(
             change_proposed(session, places, offer.wanted.by), 1
         ):
             count.add(each)
+            of_list.add(each)
             if isinstance(each, Change):
                 marks += each.touched
                 back.append(requests.Undo(each.paragraph))
@@ -283,9 +286,20 @@ def _all_changed(
         deed = Deed(what, tuple(reversed(back)))
         kept = f"kept: {counted(len(back), 'correction')}"
         state = _changed(session, state, deed, kept)
-    lines = [*count.totals(state.version), *count.refusals()]
+    lines = [*of_list.totals(state.version), *of_list.refusals()]
     lines += filter(None, (said, touched(marks)))
     return replace(state, pages=Pages("Changed.", tuple(lines)))
+
+
+def _done_before(offer: ChangePlaces) -> Count:
+    """What became of the places of a list that were changed or left one by one."""
+    count = Count(offer.wanted)
+    for each in offer.places:
+        if each.change is not None:
+            count.add(each.change)
+        elif each.is_left:
+            count.add(Passed(each.proposal))
+    return count
 
 
 def _changed(session: Session, state: State, deed: Deed, kept: str) -> State:
