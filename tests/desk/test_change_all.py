@@ -138,9 +138,61 @@ def test_nothing_is_changed_where_it_is_only_shown(moons: Path) -> None:
         0,
         "Place 1 of 1, paragraph 1: The [mooon] and the Mooon.\n"
         "After: The [moon] and the Mooon.\n",
-        "“mooon” would be changed in 1 place of 1 paragraph. Nothing was changed.\n",
+        "“mooon” would be changed in 1 place of 1 paragraph, unless the book refuses a place."
+        " Nothing was changed.\n",
     )
     assert prints(moons)[0] == "The mooon and the Mooon."
+
+
+def test_places_in_struck_paragraphs_are_not_counted_as_changed(moons: Path) -> None:
+    ran = changed(moons, "mooon", "moon", "--dry-run")
+    assert (ran.status, ran.said) == (
+        0,
+        "“mooon” would be changed in 3 places of 2 paragraphs, unless the book refuses a"
+        " place. 1 place of 1 struck paragraph would be refused. Nothing was changed.\n",
+    )
+    ran = changed(moons, "o", "u", "--in", "3-", "--dry-run")
+    assert ran.said == (
+        "“o” would be changed nowhere. 4 places of 1 struck paragraph would be refused."
+        " Nothing was changed.\n"
+    )
+
+
+def test_places_where_the_new_words_stand_already_are_not_counted(moons: Path) -> None:
+    words = "mooon", "Mooon", "--case", "--in", "1-2"
+    ran = changed(moons, *words, "--dry-run")
+    assert ran.shown.startswith("Place 1 of 3, paragraph 1: The [mooon] and the Mooon.")
+    assert ran.said == (
+        "“mooon” would be changed in 3 places of 2 paragraphs, unless the book refuses a"
+        " place. Nothing was changed.\n"
+    )
+    ran = changed(moons, *words, "--ask", given="no\nyes\nno\n")
+    assert "Place 2 of 3, paragraph 2: A [mooon]lit mooon" in ran.shown
+    assert prints(moons)[:2] == ["The mooon and the Mooon.", "A Mooonlit mooon"]
+
+
+@pytest.mark.parametrize("how", ["--dry-run", "--ask", "--words"])
+def test_new_words_that_stand_everywhere_already(moons: Path, how: str) -> None:
+    with Session(moons) as session:
+        session.add_paragraph("end", "en", "Tides and Tides")
+    assert changed(moons, "tides", "Tides", "--case", how) == Ran(
+        2,
+        "",
+        "The new words are the same wherever “tides” stands. Nothing was changed.\n",
+    )
+
+
+def test_places_that_would_stay_the_same_are_not_said_to_be_changed(
+    empty_book: Path,
+) -> None:
+    with Session(empty_book) as session:
+        session.supply_table("en")
+        session.add_paragraph("end", "en", "Sun SUN sun")
+    ran = changed(empty_book, "Sun", "sun", "--case", "--dry-run")
+    assert ran.said.startswith("“Sun” would be changed in 1 place of 1 paragraph, ")
+    ran = changed(empty_book, "Sun", "sun", "--case")
+    assert ran.said.startswith("“Sun” was replaced by “sun” in 1 place of 1 paragraph.")
+    assert prints(empty_book) == ["sun SUN sun"]
 
 
 def test_each_place_is_asked_about(moons: Path) -> None:

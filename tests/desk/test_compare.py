@@ -65,6 +65,21 @@ def test_paragraphs_of_one_side_alone_are_shown_by_their_first_words(
     )
 
 
+def test_words_that_a_paragraph_lacks_at_its_front_are_shown_there(moon: Path) -> None:
+    text = "The moon is far away.\n\nOf The Tides\n\nTwice a day the sea comes up.\n"
+    assert compared(moon, text) == Ran(
+        0,
+        "Paragraph 2, at its front, in the manuscript alone: Of\n",
+        "1 place of 1 paragraph differs.\n",
+    )
+    text = "So The moon is far away.\n\nBy nobody\n\nTwice a day the sea comes up.\n"
+    assert compared(moon, text).shown == (
+        "Paragraph 1, at its front, in the manuscript alone: So\n"
+        "Paragraph 2, character 1: “The”, in the manuscript “By”\n"
+        "Paragraph 2, character 5: “Tides”, in the manuscript “nobody”\n"
+    )
+
+
 @pytest.mark.parametrize("width", [20, 40])
 def test_no_line_is_over_the_width(moon: Path, width: int) -> None:
     text = "By nobody\n\nThe sun is further away.\n\nThe Tides of the sea\n"
@@ -88,6 +103,16 @@ def test_a_text_that_is_none_is_refused(moon: Path, text: bytes, sentence: str) 
     ran = scribe("compare", moon, "nothing.txt", folder=moon.parent)
     assert (ran.status, ran.shown) == (3, "")
     assert "nothing.txt" in ran.said
+
+
+def test_of_a_manuscript_that_is_not_there_nothing_is_said_of_what_was_kept(
+    moon: Path,
+) -> None:
+    said = "“none.txt” could not be read or written: No such file or directory.\n"
+    ran = scribe("compare", moon, "none.txt", folder=moon.parent)
+    assert ran == Ran(3, "", said)
+    ran = scribe("talk", moon, folder=moon.parent, given="compare none.txt\n")
+    assert ran.said == said
 
 
 def test_a_book_is_compared_with_another_book(moon: Path) -> None:

@@ -91,6 +91,30 @@ def test_files_of_volumes_that_are_no_more_are_named_and_left(moon: Path) -> Non
     assert (out / "moon-10.brf").read_bytes() == b"older"
 
 
+def test_files_of_pages_that_are_not_written_anew_are_named_and_left(
+    moon: Path,
+) -> None:
+    words: list[str | Path] = ["export", moon, "out", *SIZES]
+    scribe(*words, folder=moon.parent)
+    scribe(*words, "--page", "1", folder=moon.parent)
+    out = moon.parent / "out"
+    for name in ("moon-10-changed.brf", "moon-2-changed.brf", "moons-1-changed.brf"):
+        (out / name).write_bytes(b"older")
+    (out / "moon-1-pages-a-1.brf").write_bytes(b"of another book")
+    left = "out/moon-1-pages-1.brf, out/moon-2-changed.brf, out/moon-10-changed.brf"
+    said = f"Left from an earlier export, of single pages: {left}.\n"
+    with Session(moon) as session:
+        session.correct(1, 0, 3, "Our")
+    ran = scribe(*words, "--only-changed", folder=moon.parent)
+    assert ran.shown.endswith("the changed pages of volume 1 alone.\n")
+    assert (ran.status, ran.said) == (0, said)
+    # no page differs now, so that the file of those that did is of an earlier export
+    ran = scribe(*words, "--only-changed", folder=moon.parent)
+    changed = "pages: out/moon-1-changed.brf, "
+    assert (ran.status, ran.said) == (0, said.replace("pages: ", changed))
+    assert (out / "moon-2-changed.brf").read_bytes() == b"older"
+
+
 def test_a_book_without_volumes_writes_none(book: Path) -> None:
     ran = scribe("export", book, "out", folder=book.parent)
     assert ran == Ran(
@@ -364,6 +388,10 @@ def test_pages_that_differ_from_the_older_file_are_named(moon: Path) -> None:
     assert ran.shown.splitlines()[1] == (
         "Changed in volume 1: no page of 5. There were 11 pages before."
     )
+    wide = ("--width", "60", "--lines", "40")
+    assert scribe("export", moon, "out", *wide, folder=moon.parent).status == 0
+    ran = scribe("export", moon, "out", *SIZES, folder=moon.parent)
+    assert ran.shown.splitlines()[1].endswith(" There was 1 page before.")
 
 
 def test_single_pages_are_written_beside_the_volumes(moon: Path) -> None:

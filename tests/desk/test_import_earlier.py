@@ -264,10 +264,13 @@ def test_an_import_goes_on_after_corrections_and_other_paragraphs(killed: Path) 
         session.correct(4, 0, 4, "Row")
         session.correct(4, 0, 1, "B")
         session.undo(4)
+        # the last one too, after which the rest comes
+        session.correct(7, 0, 4, "Row")
         session.add_paragraph("end", "en", "Typed by hand.")
     assert again(killed, "--continue").status == 0
-    rows = ["Row number 1 of the moon.", "Row number 2 of the moon."]
-    assert prints(killed) == ["front", *rows, *LINES[2:], "end", "Typed by hand."]
+    rows = [line.replace("Line", "Row") for line in LINES]
+    lines = [*rows[:2], *LINES[2:4], rows[4], *LINES[5:]]
+    assert prints(killed) == ["front", *lines, "end", "Typed by hand."]
 
 
 def test_an_import_that_was_taken_back_is_not_called_cut_short(killed: Path) -> None:

@@ -72,22 +72,35 @@ def test_what_is_proposed_is_set(chapters: Path) -> None:
     ran = volumes(chapters, "--pages", "1", "--set", *SIZE)
     assert (ran.status, ran.shown.count("\n")) == (0, 3)
     assert ran.said == (
-        "3 volumes, 3 pages of 5 lines of 12 cells.\n"
         "Paragraphs 4 and 6 begin a volume now.\n"
         "Paragraph 3 begins no volume now.\n"
         "The book is at version 17.\n"
+        "3 volumes, 3 pages of 5 lines of 12 cells.\n"
     )
     with Session(chapters) as session:
         starts = [each.id for each in session.paragraphs() if each.begins_volume]
     assert starts == [4, 6]
     already = "The volumes begin there already.\nThe book is at version 17.\n"
     ran = volumes(chapters, "--pages", "1", "--set", *SIZE)
-    assert ran.said.endswith(already)
+    assert ran.said.startswith(already)
     assert volumes(chapters, "--pages", "1", *SIZE).said.endswith(
         "The volumes begin there already.\n"
     )
     ran = scribe("export", chapters, "out", *SIZE, folder=chapters.parent)
     assert [line.split(", ")[1] for line in ran.shown.splitlines()] == ["1 page"] * 3
+
+
+def test_what_was_set_is_said_before_the_volumes_are_shown(chapters: Path) -> None:
+    both = StringIO()
+    words = ["volumes", str(chapters), "--pages", "1", "--set", *SIZE]
+    run_words(words, Console(BytesIO(), both, both))
+    assert [line.partition(":")[0] for line in both.getvalue().splitlines()] == [
+        "Paragraphs 4 and 6 begin a volume now.",
+        "Paragraph 3 begins no volume now.",
+        "The book is at version 17.",
+        *("Volume 1", "Volume 2", "Volume 3"),
+        "3 volumes, 3 pages of 5 lines of 12 cells.",
+    ]
 
 
 @pytest.mark.parametrize(
@@ -132,14 +145,26 @@ def test_a_book_without_paragraphs_has_no_volume(book: Path) -> None:
     assert volumes(book, "--pages", "1", "--set") == none
 
 
+@pytest.mark.parametrize(
+    "last, said_of_it",
+    [
+        # of paragraphs 3, 4 and 6 the last is left
+        (
+            4,
+            "Of 3 changes 2 are in the book, which is at version 16. The same command makes the"
+            " others.",
+        ),
+        (6, "Of 3 changes 3 are in the book, which is at version 17."),
+    ],
+)
 def test_where_it_is_stopped_it_is_said_what_is_in_the_book(
-    chapters: Path, monkeypatch: pytest.MonkeyPatch
+    chapters: Path, monkeypatch: pytest.MonkeyPatch, last: int, said_of_it: str
 ) -> None:
     set_begins_volume = Session.set_begins_volume
 
     def stopped(session: Session, number: int, begins: bool) -> Done:
         done = set_begins_volume(session, number, begins)
-        if number == 4:
+        if number == last:
             raise KeyboardInterrupt
         return done
 
@@ -150,16 +175,13 @@ def test_where_it_is_stopped_it_is_said_what_is_in_the_book(
             ["volumes", str(chapters), "--pages", "1", "--set", *SIZE],
             Console(BytesIO(), shown, said),
         )
-    # of paragraphs 3, 4 and 6 the last is left
-    assert said.getvalue() == (
-        "Stopped. Of 3 changes 2 are in the book, which is at version 16. The same command makes"
-        " the others.\n"
-    )
+    assert said.getvalue() == f"Stopped. {said_of_it}\n"
     monkeypatch.undo()
     ran = volumes(chapters, "--pages", "1", "--set", *SIZE)
-    assert ran.said.endswith(
-        "Paragraph 6 begins a volume now.\nThe book is at version 17.\n"
-    )
+    rest = "Paragraph 6 begins a volume now."
+    if last == 6:
+        rest = "The volumes begin there already."
+    assert ran.said.startswith(f"{rest}\nThe book is at version 17.\n")
 
 
 def test_a_talk_shows_volumes_and_sets_them(chapters: Path) -> None:
@@ -176,9 +198,9 @@ def test_a_talk_shows_volumes_and_sets_them(chapters: Path) -> None:
         "2 volumes, 2 pages of 25 lines of 40 cells.",
         "1 volume, 1 page of 25 lines of 40 cells.",
         "Paragraph 3 would begin no volume; --set does it.",
-        "1 volume, 1 page of 25 lines of 40 cells.",
         "Paragraph 3 begins no volume now.",
         "The book is at version 15.",
+        "1 volume, 1 page of 25 lines of 40 cells.",
         "Argument --set: say by --pages how many pages a volume has at most.",
     ]
 

@@ -56,6 +56,8 @@ class Proposal:
     text: str
     place: Span
     new: str
+    #: Whether its paragraph is struck, so that the book refuses the change.
+    is_struck: bool = False
 
     @property
     def after(self) -> tuple[str, Span]:
@@ -63,6 +65,11 @@ class Proposal:
         now = replaced(self.text, self.place.start, self.place.stop, self.new)
         kept = len(self.text) - self.place.stop
         return now, Span(self.place.start, max(self.place.start, len(now) - kept))
+
+    @property
+    def changes(self) -> bool:
+        """Whether the print would be another one."""
+        return self.after[0] != self.text
 
 
 @dataclass(frozen=True)
@@ -85,14 +92,17 @@ Choice = Callable[[Proposal], bool]
 
 
 def proposals(session: Session, wanted: Replacement) -> list[Proposal]:
-    """All places of a book that would be changed, as they are now."""
+    """All places of a book that would be changed, as they are now.
+
+    Where the new words are the same as those that stand there, nothing would be.
+    """
     _judge(wanted)
-    its = _chosen(session, wanted)
-    return [
-        _proposal(paragraph.id, text, place, wanted)
-        for paragraph, text in zip(its, prints(session, its))
-        for place in wanted.places(text)
-    ]
+    return [each for each in _places(session, wanted) if each.changes]
+
+
+def is_there(session: Session, wanted: Replacement) -> bool:
+    """Whether the words stand anywhere, also where the new ones are the same."""
+    return bool([*_places(session, wanted)])
 
 
 def change_all(
@@ -121,7 +131,7 @@ def change_proposed(
         left = list(its)
         while left:
             proposal = left.pop(0)
-            if proposal.after[0] == proposal.text:
+            if not proposal.changes:
                 yield Passed(proposal)
                 continue
             number, text, place = proposal.paragraph, proposal.text, proposal.place
@@ -163,7 +173,7 @@ def _change_in(
     while (place := next(wanted.places(text, start), None)) is not None:
         proposal = _proposal(number, text, place, wanted)
         start = place.stop
-        if proposal.after[0] == text or not is_wanted(proposal):
+        if not (proposal.changes and is_wanted(proposal)):
             yield Passed(proposal)
             continue
         try:
@@ -185,6 +195,15 @@ def _chosen(session: Session, wanted: Replacement) -> Sequence[Paragraph]:
     book = session.paragraphs()
     numbers = {each.id for each in chosen(book, wanted.ranges)}
     return [each for each in book if each.id in numbers]
+
+
+def _places(session: Session, wanted: Replacement) -> Iterator[Proposal]:
+    """All places where the words stand."""
+    its = _chosen(session, wanted)
+    for paragraph, text in zip(its, prints(session, its)):
+        for place in wanted.places(text):
+            proposal = _proposal(paragraph.id, text, place, wanted)
+            yield replace(proposal, is_struck=paragraph.struck)
 
 
 def _proposal(number: int, text: str, place: Span, wanted: Replacement) -> Proposal:

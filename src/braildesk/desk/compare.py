@@ -137,7 +137,7 @@ def _of_block(
         else:
             after = "" if last_word is None else last_word.text
             for _, text in _texts(come):
-                yield LackingWords(number, after, text)
+                yield LackingWords(mine[max(start - 1, 0)].paragraph, after, text)
         yield from whole if is_after else ()
         for _, text in _texts(lacking):
             yield LackingParagraph(number, text)

@@ -61,6 +61,18 @@ class Job:
         }
         return [found[volume] for volume in sorted(found) if volume > volumes]
 
+    def files_of_pages(self) -> list[Path]:
+        """Files of single pages of any volumes, in their order."""
+        form = re.compile(
+            re.escape(self.name) + r"-([1-9][0-9]{0,4})-(changed|pages-[0-9,-]+)\.brf"
+        )
+        found = {
+            (int(match[1]), path.name): path
+            for path in self.folder.iterdir()
+            if (match := form.fullmatch(path.name))
+        }
+        return [found[key] for key in sorted(found)]
+
 
 @dataclass(frozen=True)
 class Differences:
@@ -179,6 +191,8 @@ class Export:
         self._check = check
         self._volumes: list[bytes | Refused] = []
         self._written: list[int] = []
+        #: The files of pages that differ which were written.
+        self.changed_files: list[Path] = []
 
     @property
     def volumes(self) -> int:
@@ -280,6 +294,7 @@ class Export:
         file, parted = self.job.changed_file(volume), _parted(pages)
         changed = b"".join(parted[number - 1] for number in differences.pages)
         self.write(volume, file, changed)
+        self.changed_files.append(file)
         return differences, file
 
     def write(self, volume: int, file: Path, pages: bytes) -> None:

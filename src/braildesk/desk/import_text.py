@@ -33,7 +33,7 @@ from braildesk.desk.intake import (
 )
 from braildesk.desk.manuscript import Passage, UnreadableText
 from braildesk.desk.manuscripts import Taken, read_bytes, taken
-from braildesk.desk.origin import standing
+from braildesk.desk.origin import came_from, standing
 from braildesk.desk.replacements import read_replacements
 from braildesk.desk.typist import CutShort, look_for, type_all
 from braildesk.desk.unfinished import digest_of, unfinished
@@ -394,7 +394,11 @@ def _intake(
     anchor = paragraph_before(book, job.after)
     stored = session.print_of(anchor.id) if anchor and before else None
     version = session.last_version
-    if rest:
+    # where an import goes on, the paragraph before may have been corrected since
+    is_its = (
+        job.way is Way.GO_ON and anchor and came_from(session, [anchor.id], before[-1:])
+    )
+    if rest and not is_its:
         check_goes_on(stored, before, rest)
     if rest and job.way is not Way.AGAIN:
         if numbers := standing(session, book, job.after, rest):

@@ -2,7 +2,7 @@
 
 A volume begins at a heading if that can be. Only a chapter that has too many pages by itself is cut
 before one of its paragraphs. Of all ways to do so that cut as few chapters, one is taken that has the
-fewest volumes, and of these one whose volumes are of the most even size.
+fewest volumes, and of these one whose volumes are of a size as even as can be without more pages.
 """
 
 from bisect import bisect_right

@@ -1,11 +1,17 @@
 """Words that are replaced wherever they stand, in words: each place, and what became of all."""
 
-from collections.abc import Callable, Iterable, Iterator
+from collections.abc import Callable, Iterable, Iterator, Sequence
 from dataclasses import dataclass, field
 
 from braildesk import Session
 from braildesk.desk.change import Change
-from braildesk.desk.change_all import NotChanged, Passed, Proposal, Replacement
+from braildesk.desk.change_all import (
+    NotChanged,
+    Passed,
+    Proposal,
+    Replacement,
+    is_there,
+)
 from braildesk.desk.find import Variant, alike, find_words, tallied
 from braildesk.desk.ranges import ParagraphRange
 from braildesk.text.excerpt import excerpt_lines
@@ -161,13 +167,26 @@ def would_change(wanted: Replacement, found: Iterable[Proposal]) -> str:
 
 
 def how_many(wanted: Replacement, found: Iterable[Proposal]) -> str:
-    """How many places would be changed."""
-    numbers = [each.paragraph for each in found]
-    places, paragraphs = counted(len(numbers), "place"), len({*numbers})
-    return (
-        f"{quoted(wanted.old)} would be changed in {places} of"
-        f" {counted(paragraphs, 'paragraph')}."
-    )
+    """How many places would be changed, as far as it is known before the book is asked, and how many
+    wouldn't, since their paragraphs are struck.
+    """
+    struck: list[int] = []
+    numbers: list[int] = []
+    for each in found:
+        (struck if each.is_struck else numbers).append(each.paragraph)
+    where = "nowhere"
+    if numbers:
+        places = _places_of(numbers, "paragraph")
+        where = f"in {places}, unless the book refuses a place"
+    said = f"{quoted(wanted.old)} would be changed {where}."
+    if struck:
+        said += f" {_places_of(struck, 'struck paragraph')} would be refused."
+    return said
+
+
+def _places_of(numbers: Sequence[int], word: str) -> str:
+    """How many places there are in paragraphs, of which each has its number once for each place."""
+    return f"{counted(len(numbers), 'place')} of {counted(len({*numbers}), word)}"
 
 
 def _as_words(wanted: Replacement) -> str:
@@ -175,8 +194,10 @@ def _as_words(wanted: Replacement) -> str:
 
 
 def nowhere(session: Session, wanted: Replacement, offer: str) -> str:
-    """What is said of words that stand nowhere in what is looked through."""
+    """What is said of words where none would be changed in what is looked through."""
     old = quoted(wanted.old)
+    if is_there(session, wanted):
+        return f"The new words are the same wherever {old} stands. Nothing was changed."
     if wanted.ranges != (ParagraphRange(),):
         return (
             f"{old} isn't in these paragraphs{_as_words(wanted)}. Nothing was changed."

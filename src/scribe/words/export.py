@@ -38,7 +38,7 @@ def export_in_words(job: Job, console: Console) -> Status:
         rest = " Nothing was exported." if files is None else _files(files)
         console.say(stopped_by(cause) + rest)
         raise Interrupted.after(cause) from cause
-    console.say(*_ending(job, made.volumes))
+    console.say(*_ending(job, made))
     return Status.DONE if made.is_whole else Status.REFUSED
 
 
@@ -55,7 +55,8 @@ def changed_pages(volume: int, its: Differences) -> str:
     """Which pages of a volume aren't as they were, as in “volume 1: pages 6 and 10 of 71”."""
     more = ""
     if its.before != its.count:
-        more = f" There were {counted(its.before, 'page')} before."
+        verb = "was" if its.before == 1 else "were"
+        more = f" There {verb} {counted(its.before, 'page')} before."
     if not its.pages:
         return f"Changed in volume {volume}: no page of {its.count:,}.{more}"
     if len(its.pages) == its.count > 1:
@@ -161,21 +162,28 @@ def _numbered(volumes: Sequence[int], one: str, more: str, what: str) -> str:
     return f" Volumes {', '.join(others)} and {last} {more} {what}."
 
 
-def _ending(job: Job, volumes: int) -> list[str]:
+def _ending(job: Job, made: Export) -> list[str]:
     """What is said after all volumes were written."""
     sentences = []
-    if volumes == 0:
+    if made.volumes == 0:
         sentences.append(
             "The book has no volume: each paragraph is struck, or there is none."
         )
     try:
-        later = [str(path) for path in job.later_files(volumes)]
+        later = [str(path) for path in job.later_files(made.volumes)]
+        older = [
+            str(path) for path in job.files_of_pages() if path not in made.changed_files
+        ]
     except OSError as error:
-        later = []
+        later = older = []
         sentences.append(f"The folder {job.folder} can't be listed: {error.strerror}.")
     if later:
         sentences.append(
             "Left from an earlier export, of volumes that the book has no more:"
             f" {', '.join(later)}."
+        )
+    if older:
+        sentences.append(
+            f"Left from an earlier export, of single pages: {', '.join(older)}."
         )
     return sentences

@@ -1,5 +1,6 @@
 """An import in words: what keeps a text from being typed, and what became of one that was begun."""
 
+import stat
 from collections.abc import Callable, Iterable, Iterator, Sequence
 from contextlib import contextmanager
 from dataclasses import replace
@@ -54,7 +55,7 @@ from braildesk.desk.manuscript import (
 from braildesk.desk.replacements import BadReplacements
 from braildesk.desk.typist import CutShort
 from braildesk.desk.unfinished import NotSeen, Unfinished
-from braildesk.desk.whole_file import write_whole
+from braildesk.desk.whole_file import AnotherIsThere, write_whole
 from braildesk.named_files import is_same_file
 from braildesk.protocol.asked import journal_path, log_path, real_path
 from braildesk.text import characters, limits
@@ -195,8 +196,15 @@ def _write_report(job: Import, report: Path, lines: Sequence[str]) -> None:
         each is not None and is_same_file(report, each) for each in own
     ):
         raise Stop(f"The report would take the place of {report}. Nothing was typed.")
+    # imported here, since few imports have a report
+    from scribe.words.losses import is_report
+
+    # the name of a file may have anything, and is read in a terminal too
+    text = "".join(f"{visible(line)}\n" for line in lines)
     try:
-        write_whole(report, "".join(f"{line}\n" for line in lines).encode())
+        write_whole(report, text.encode(), replaces=is_report)
+    except AnotherIsThere as cause:
+        raise Stop(_no_report(report, cause)) from cause
     except MayNotLast as cause:
         said = f"{may_not_last(report, cause)} Nothing was typed."
         raise Stop(said, Status.FAILED) from cause
@@ -205,6 +213,19 @@ def _write_report(job: Import, report: Path, lines: Sequence[str]) -> None:
             f"The report can't be written to {report}: {cause.strerror}. Nothing was typed.",
             Status.FAILED,
         ) from cause
+
+
+def _no_report(report: Path, there: AnotherIsThere) -> str:
+    """That what stands where a report would be written was left as it is."""
+    its = "is there already, and doesn't begin as a report does"
+    if there.leads_to is not None:
+        its = f"is a link to {there.leads_to}"
+    elif not stat.S_ISREG(there.mode):
+        its = "is no file"
+    return (
+        f"{report} {its}, so it was left as it is. Nothing was typed. Take another path for the"
+        " report."
+    )
 
 
 def _left(job: Import, intake: Intake, cut: CutShort, again: str) -> Iterator[str]:

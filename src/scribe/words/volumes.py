@@ -77,9 +77,10 @@ def stopped_after(done: int, count: int, version: int) -> str:
     if not done:
         return "Nothing was changed."
     is_are = "is" if done == 1 else "are"
+    others = " The same command makes the others." if done < count else ""
     return (
         f"Of {counted(count, 'change')} {done:,} {is_are} in the book, which is at version"
-        f" {version:,}. The same command makes the others."
+        f" {version:,}.{others}"
     )
 
 
