@@ -22,13 +22,15 @@ from terminal import Open, Terminal
 from tool import WAIT_SECONDS
 
 # What the tests start is ended by signals, also if what runs the tests ignores them, as a shell does
-# with SIGINT in the background, and nohup with SIGHUP.
+# with SIGINT and SIGQUIT in the background, and nohup with SIGHUP.
 signal.signal(signal.SIGINT, signal.default_int_handler)
-for each in (signal.SIGHUP, signal.SIGTERM):
+for each in (signal.SIGHUP, signal.SIGTERM, signal.SIGQUIT):
     signal.signal(each, signal.SIG_DFL)
 
 #: The folder in which processes that run the tests side by side say which files they have taken.
 TAKEN = os.environ.get("TAKEN")
+#: The file that takes longest, nearly all of it waiting: no process is to run it when the others are done.
+LONGEST = "test_waiting.py"
 
 
 def pytest_collection(session: pytest.Session) -> bool | None:
@@ -57,7 +59,8 @@ def pytest_runtestloop(session: pytest.Session) -> bool | None:
 def taken(session: pytest.Session, folder: Path) -> Iterator[pytest.Item]:
     """The tests of each file that this process is the first to take, which is read by then."""
     count = 0
-    for path in sorted(Path(__file__).parent.glob("test_*.py")):
+    paths = sorted(Path(__file__).parent.glob("test_*.py"))
+    for path in sorted(paths, key=lambda path: path.name != LONGEST):
         try:
             (folder / path.name).mkdir()
         except FileExistsError:

@@ -3,14 +3,16 @@
 import os
 import shutil
 from collections.abc import Iterator
-from contextlib import contextmanager
+from contextlib import AbstractContextManager, contextmanager
 from io import BytesIO, StringIO
 from pathlib import Path
+from typing import Any, BinaryIO
 
 import pytest
 
 import braildesk
 from braildesk import Session
+from braildesk.held import held
 from braildesk.snapshot import snapshot
 
 from scribe.cli import run_words
@@ -59,6 +61,27 @@ def test_nothing_but_a_book_is_replaced(moon: Path, kind: str) -> None:
         assert ran.said == (
             "“other” is no book, and was left as it is. Take another path for the copy.\n"
         )
+
+
+def test_what_is_put_in_place_of_a_book_meanwhile_is_not_replaced(
+    moon: Path, monkeypatch: pytest.MonkeyPatch
+) -> None:
+    other, letter = moon.with_name("other"), moon.with_name("letter")
+    letter.write_text("Dear Anna,\n")
+    braildesk.new_book(other)
+
+    def swapped(*given: Any) -> AbstractContextManager[BinaryIO]:
+        other.unlink()
+        other.symlink_to(letter)
+        return held(*given)
+
+    # as by another user of the folder, once it was looked at
+    monkeypatch.setattr("braildesk.making.held", swapped)
+    shown, said = StringIO(), StringIO()
+    words = ["copy", str(moon), str(other), "--overwrite"]
+    assert run_words(words, Console(BytesIO(), shown, said)) == 2
+    assert letter.read_text() == "Dear Anna,\n"
+    assert said.getvalue().startswith(f"“{other}” is no book, and was left as it is.")
 
 
 def test_a_book_that_is_open_or_the_book_itself_is_not_replaced(moon: Path) -> None:

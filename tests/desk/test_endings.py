@@ -48,6 +48,14 @@ def faulty(fault: str, folder: Path, *words: str, **more: str) -> Ran:
     return Ran(done.returncode, done.stdout.decode(), done.stderr.decode())
 
 
+def test_what_is_said_last_is_no_wider_than_a_line(tmp_path: Path) -> None:
+    settings = {"XDG_STATE_HOME": str(tmp_path / "state")}
+    whole = faulty("MemoryError()", tmp_path, **settings).said
+    said = faulty("MemoryError()", tmp_path, COLUMNS="40", **settings).said
+    assert max(map(len, said.splitlines())) <= 40 < len(whole)
+    assert said.split() == whole.split()
+
+
 def test_a_fault_of_scribe_itself_is_a_sentence_with_3_and_its_details_are_kept(
     tmp_path: Path,
 ) -> None:

@@ -83,6 +83,19 @@ def test_no_command_sends_a_name_with_escapes_to_the_terminal(moon: Path) -> Non
         assert "\x1b" not in ran.shown + ran.said, words
 
 
+def test_a_report_shows_a_name_with_escapes_or_bytes_that_are_no_text(
+    moon: Path,
+) -> None:
+    name, report = "\x1b[2J\nAll was typed\udce9.txt", moon.with_name("lost.txt")
+    moon.with_name(name).write_text("The sun\n")
+    words = ("import", moon.name, name, "--report", report.name)
+    assert scribe(*words, folder=moon.parent).status == 0
+    assert (
+        report.read_text()
+        == "<U+001B>[2J<U+000A>All was typed<U+DCE9>.txt is a text.\n"
+    )
+
+
 def test_a_title_and_a_licence_of_a_table_are_comments_without_escapes(
     tmp_path: Path,
 ) -> None:

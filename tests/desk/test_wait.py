@@ -66,7 +66,12 @@ def test_two_who_mark_at_once_both_have_their_marks(
 
 @pytest.mark.parametrize(
     "words",
-    ["talk {}", "mark {} 1 far why? --wait 0", "export {} {}-pages --wait 1.2"],
+    [
+        "talk {}",
+        "mark {} 1 far why? --wait 0",
+        "volumes {} --pages 9 --set --wait 0",
+        "export {} {}-pages --wait 1.2",
+    ],
 )
 def test_a_book_that_is_not_free_in_time_is_said_to_be_in_use(
     moon: Path, monkeypatch: pytest.MonkeyPatch, words: str
@@ -91,6 +96,7 @@ def test_a_book_that_is_not_free_in_time_is_said_to_be_in_use(
         "show {} --wait 60",
         "talk {} --wait 60",
         "heading {} 1 --wait 60",
+        "volumes {} --pages 9 --set --wait 60",
     ],
 )
 def test_a_command_waits_for_as_long_as_it_is_told(

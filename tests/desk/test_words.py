@@ -238,19 +238,31 @@ def test_a_program_that_is_not_there_is_said(moon: Path) -> None:
     assert "“/none”" in ran.said
 
 
-def test_a_full_output_is_said_and_ends_with_3(moon: Path) -> None:
+@pytest.mark.parametrize(
+    "words, kept",
+    [
+        (("--help",), ""),
+        (("show", "moon.braildesk"), ""),
+        (
+            ("strike", "moon.braildesk", "1"),
+            " What was changed in a book before that is kept.",
+        ),
+    ],
+)
+def test_a_full_output_is_said_and_ends_with_3(
+    moon: Path, words: tuple[str, ...], kept: str
+) -> None:
     with open("/dev/full", "w") as full:
         done = subprocess.run(
-            [sys.executable, "-m", "scribe", "--help"],
+            [sys.executable, "-m", "scribe", *words],
+            cwd=moon.parent,
             stdout=full,
             stderr=subprocess.PIPE,
             env=environment(),
         )
     assert done.returncode == 3
-    assert done.stderr == (
-        b"Standard output could not be written: No space left on device. What was changed in a book"
-        b" before that is kept.\n"
-    )
+    said = f"Standard output could not be written: No space left on device.{kept}\n"
+    assert done.stderr.decode() == said
 
 
 def test_a_reader_that_left_is_no_cause_for_words(moon: Path) -> None:

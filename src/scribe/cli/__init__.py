@@ -20,7 +20,8 @@ statuses:
   1  the words are refused
   2  something is refused: a request, a book, a table, a text
   3  something failed: a file, the disk, standard input or output, scribe itself
-After Ctrl-C (SIGINT), SIGTERM, SIGHUP and SIGXCPU scribe says what is so, and ends by that signal."""
+After Ctrl-C (SIGINT), SIGTERM, SIGHUP, SIGQUIT and SIGXCPU scribe says what is so, and ends by
+that signal."""
 
 
 def make_parser(names: Collection[str] = COMMANDS.keys()) -> Parser:
@@ -47,7 +48,7 @@ def run_words(words: Sequence[str], console: Console) -> Status:
             parser.refuse(unknown_command(words[0], list(COMMANDS)))
         arguments = parser.parse_args(words)
         console = as_asked(console, arguments)
-        with in_sentences():
+        with in_sentences(lambda: may_change(arguments)):
             status: Status = arguments.run(arguments, console)
             console.flush()
         return status

@@ -38,7 +38,7 @@ class BookCommand:
     #: Whether it looks at the book and changes nothing.
     looks: bool = False
     #: Whether its words have it change the book though it looks at it without them.
-    changes: Callable[[Namespace], bool] = lambda _: False
+    changes: Callable[[Namespace], bool] | None = None
     #: Refuses words that don't go together, before anything is begun by them.
     judge: Callable[[Namespace], None] = lambda _: None
     #: Begins at a shell what goes on beside the opening of the book.
@@ -47,7 +47,9 @@ class BookCommand:
     def add_parser(self, subparsers: Subparsers) -> Parser:
         """Adds its words, and those for the book's file."""
         parser = command_parser(subparsers, self.name, self.example, self.more)
-        add_file(parser, 0.0 if self.looks else USUAL_WAIT)
+        wait = 0.0 if self.looks else USUAL_WAIT
+        # what looks at a book doesn't wait, and with some words this isn't just a look
+        add_file(parser, None if self.changes else wait)
         self.add_words(parser)
         return parser
 
@@ -64,6 +66,8 @@ class BookCommand:
         from braildesk.beginning import Beginning
 
         self.judge(arguments)
+        if arguments.wait is None:
+            arguments.wait = USUAL_WAIT if self.may_change(arguments) else 0.0
         waiting = console.waiting()
         with self.beside(arguments), Beginning(arguments.file, waiting) as beginning:
             # imported once the program is at work, as is what answers
@@ -73,7 +77,7 @@ class BookCommand:
 
     def may_change(self, arguments: Namespace) -> bool:
         """Whether its words may have it change the book."""
-        return not self.looks or self.changes(arguments)
+        return not self.looks or bool(self.changes and self.changes(arguments))
 
 
 def add_nth(parser: ArgumentParser, words: str) -> None:

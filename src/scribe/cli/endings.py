@@ -17,11 +17,17 @@ from typing import NoReturn
 from braildesk.text.characters import visible
 from braildesk.version import version
 
-from scribe.words.console import OutputFailed
+from scribe.words.console import OutputFailed, width_of_output
 from scribe.words.status import Interrupted, Status, number_of, stopped_by
 
 _DETAILS = "fault.txt"
-_SIGNALS = (signal.SIGINT, signal.SIGTERM, signal.SIGHUP, signal.SIGXCPU)
+_SIGNALS = (
+    signal.SIGINT,
+    signal.SIGTERM,
+    signal.SIGHUP,
+    signal.SIGQUIT,
+    signal.SIGXCPU,
+)
 #: When a signal comes again that was dropped, in seconds.
 _SOON = 0.01
 _IN_THE_BOOK = "What was reported as kept is in the book, and what was asked after that may be there too."
@@ -60,10 +66,8 @@ def _status(run: Callable[[], int], may_change: Callable[[], bool]) -> int:
     try:
         return run()
     except OutputFailed as failed:
-        for sentence in (
-            *(() if failed.reader_left else (failed.sentence,)),
-            *lost_besides(failed),
-        ):
+        said = "" if failed.reader_left else _of_output(failed, may_change)
+        for sentence in filter(None, (said, *lost_besides(failed))):
             say_last(sentence)
     except Exception as fault:
         kept = _kept_at(fault, may_change)
@@ -88,11 +92,21 @@ def _kept_at(failure: BaseException, may_change: Callable[[], bool]) -> str:
 
 def _in_the_book(may_change: Callable[[], bool]) -> str:
     """What is in the book after an end that nobody foresaw."""
+    return _IN_THE_BOOK if _may_have_changed(may_change) else _NOTHING_CHANGED
+
+
+def _of_output(failed: OutputFailed, may_change: Callable[[], bool]) -> str:
+    """That no more can be written, and what was kept, where something may have been."""
+    kept = failed.kept if _may_have_changed(may_change) else ""
+    return f"{failed.sentence} {kept}".rstrip()
+
+
+def _may_have_changed(may_change: Callable[[], bool]) -> bool:
+    """Whether a book may have been changed."""
     # where even this fails, as without memory, nobody knows it
     with suppress(Exception):
-        if not may_change():
-            return _NOTHING_CHANGED
-    return _IN_THE_BOOK
+        return may_change()
+    return True
 
 
 def said_of(
@@ -155,7 +169,19 @@ def of_fault(fault: Exception, kept: str) -> str:
 def say_last(sentence: str) -> None:
     """Says a sentence if standard error is there, and nothing else may be."""
     with suppress(OSError):
-        os.write(2, f"{visible(sentence)}\n".encode(errors="backslashreplace"))
+        os.write(2, _in_lines(visible(sentence)).encode(errors="backslashreplace"))
+
+
+def _in_lines(sentence: str) -> str:
+    """A sentence in lines of the width of the output, or as it is where even this fails."""
+    lines = [sentence]
+    with suppress(Exception):
+        # imported here, since few runs end so
+        from braildesk.text.wrapping import wrap
+
+        width = width_of_output()
+        lines = lines if width is None else wrap(sentence, width)
+    return "".join(f"{line}\n" for line in lines)
 
 
 def _kept(fault: Exception) -> Path:
@@ -196,6 +222,8 @@ def _interrupted(number: int, frame: FrameType | None) -> None:
     for each in _SIGNALS:
         if signal.getsignal(each) is _interrupted:
             signal.signal(each, _nothing)
+    # Python may lose what is raised where it comes to a timer's signal before that is caught
+    signal.setitimer(signal.ITIMER_REAL, 0)
     raise Interrupted(signal.Signals(number))
 
 

@@ -51,15 +51,11 @@ def _opened(
     console: Console,
 ) -> Iterator[Session]:
     """The session of a command."""
-    may_change = command.may_change(arguments)
-    if may_change and command.looks:
-        # what looks at a book doesn't wait, and this isn't just a look
-        arguments.wait = arguments.wait or USUAL_WAIT
 
     def opened() -> Session:
         return session_of(beginning, arguments.wait)
 
-    if may_change:
+    if command.may_change(arguments):
         with opened() as session:
             yield session
     else:

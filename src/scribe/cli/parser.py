@@ -159,12 +159,15 @@ def command_parser(
 
 
 def add_file(
-    parser: argparse.ArgumentParser, wait: float = USUAL_WAIT, without: str = ""
+    parser: argparse.ArgumentParser,
+    wait: float | None = USUAL_WAIT,
+    without: str = "",
 ) -> None:
     """Adds the word FILE: the file of a book, as the path `arguments.file`.
 
-    `arguments.wait` is how many seconds it is waited for. The path is None if FILE may be left out,
-    and was; then it is said what is done without.
+    `arguments.wait` is how many seconds it is waited for, or None if that isn't said and depends on
+    whether the book is changed. The path is None if FILE may be left out, and was; then it is said
+    what is done without.
     """
     says = f"the file of the book{without}"
     if without:
@@ -177,7 +180,8 @@ def add_file(
         type=seconds,
         default=wait,
         help="how long to wait for a book that another program has open;"
-        f" {wait:g} if it isn't given",
+        f" {wait or 0:g} if it isn't given"
+        + (f", or {USUAL_WAIT:g} to change it" if wait is None else ""),
     )
 
 

@@ -56,17 +56,19 @@ class EndlessLine(InputFailed):
 class OutputFailed(Exception):
     """Standard output, or standard error, can't be written."""
 
+    #: What is said besides, where a book may have been changed.
+    kept = "What was changed in a book before that is kept."
+
     def __init__(self, cause: OSError, what: str = OUTPUT) -> None:
         super().__init__(cause)
         self.reader_left = isinstance(cause, BrokenPipeError)
-        self.sentence = (
-            f"{what} could not be written: {_why(cause)}. What was changed in a book before that"
-            " is kept."
-        )
+        self.sentence = f"{what} could not be written: {_why(cause)}."
 
 
 class OutputClosed(OutputFailed):
     """Standard output was closed before scribe began."""
+
+    kept = ""
 
     def __init__(self) -> None:
         super().__init__(OSError(errno.EBADF, os.strerror(errno.EBADF)))

@@ -5,7 +5,7 @@ import errno
 import os
 import signal
 import stat
-from collections.abc import Iterable, Iterator
+from collections.abc import Callable, Iterable, Iterator
 from contextlib import contextmanager
 from pathlib import Path
 from typing import TYPE_CHECKING
@@ -15,6 +15,7 @@ from braildesk.desk import Problem
 if TYPE_CHECKING:
     from braildesk.desk.whole_file import AnotherIsThere
 
+_IN_THE_BOOK = " What was reported as kept is in the book."
 _OF_DISK = (errno.ENOSPC, errno.EDQUOT, errno.EROFS, errno.EIO, errno.ESTALE)
 
 
@@ -78,10 +79,11 @@ def stopped_by(cause: KeyboardInterrupt) -> str:
 
 
 @contextmanager
-def in_sentences() -> Iterator[None]:
+def in_sentences(may_change: Callable[[], bool] = lambda: True) -> Iterator[None]:
     """Stops by a sentence at a problem, and if the system refuses something.
 
-    A person may go on after it.
+    A person may go on after it. Where no book may be changed by what is done, it isn't spoken of what
+    is in one.
     """
     try:
         yield
@@ -91,15 +93,19 @@ def in_sentences() -> Iterator[None]:
 
         raise as_stop(problem) from problem
     except OSError as failure:
-        raise Stop(of_system(failure), Status.FAILED) from failure
+        said = of_system(failure, _IN_THE_BOOK if may_change() else "")
+        raise Stop(said, Status.FAILED) from failure
 
 
-def of_system(failure: OSError) -> str:
-    """What a person reads of a failure that no command has a sentence of its own for."""
+def of_system(failure: OSError, kept: str = _IN_THE_BOOK) -> str:
+    """What a person reads of a failure that no command has a sentence of its own for.
+
+    After it is said what was kept.
+    """
     if _is_nowhere():
         return (
-            "The folder in which scribe was started is gone. What was reported as kept is in the"
-            " book. Go to another folder, and name files from there."
+            f"The folder in which scribe was started is gone.{kept} Go to another folder, and name"
+            " files from there."
         )
     names = (failure.filename, failure.filename2)
     # in place of a name there may be a descriptor
@@ -107,7 +113,7 @@ def of_system(failure: OSError) -> str:
     named = " and ".join(f"“{os.fsdecode(each)}”" for each in paths)
     why = failure.strerror or str(failure) or type(failure).__name__
     what = f"{named} could not be read or written" if named else "The system failed"
-    return f"{what}: {why}. What was reported as kept is in the book."
+    return f"{what}: {why}.{kept}"
 
 
 def is_of_disk(failure: Exception) -> bool:

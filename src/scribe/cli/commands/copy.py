@@ -1,12 +1,12 @@
 """`scribe copy`: a copy of a book that opens as the same book."""
 
 from argparse import ArgumentParser, Namespace
+from functools import partial
 from pathlib import Path
 
 from braildesk import CannotOpen, Why, copy
 from braildesk.making import FileIsThere
 from braildesk.named_files import is_same_file
-from braildesk.opening import may_be_book
 from braildesk.protocol.asked import BookFile
 from braildesk.snapshot import snapshot
 
@@ -42,10 +42,6 @@ def add_parser(subparsers: Subparsers) -> ArgumentParser:
 def run(arguments: Namespace, console: Console) -> Status:
     """Copies the book."""
     to = arguments.to
-    if arguments.overwrite and not may_be_book(to):
-        raise Stop(
-            f"“{to}” is no book, and was left as it is. Take another path for the copy."
-        )
     try:
         version, is_open = _copied(arguments)
     except FileIsThere as taken:
@@ -58,17 +54,17 @@ def run(arguments: Namespace, console: Console) -> Status:
 
 def _copied(arguments: Namespace) -> tuple[int, bool]:
     """The version of the copy, and whether another program has the book open."""
-    to, replaces = arguments.to, arguments.overwrite
+    to = arguments.to
+    put = partial(copy, to=to, overwrite=arguments.overwrite, only_books=True)
     try:
-        version = copy(arguments.file, to, overwrite=replaces, timeout=arguments.wait)
-        return version, False
+        return put(arguments.file, timeout=arguments.wait), False
     except CannotOpen as refusal:
         # of the book itself no older copy takes its place, should the other program end by now
         is_book = is_same_file(arguments.file, to)
         if refusal.why is not Why.IN_USE or _is_of(refusal, to) or is_book:
             raise
     with snapshot(arguments.file) as copied:
-        return copy(copied, to, overwrite=replaces), True
+        return put(copied), True
 
 
 def _is_of(refusal: CannotOpen, path: Path) -> bool:

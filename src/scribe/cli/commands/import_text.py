@@ -28,7 +28,7 @@ line is a paragraph. The text is UTF-8. Before anything is typed all of it is ju
 character that the table lacks and each paragraph that is too long is shown with its line
 and column. If the typing is cut short, also by a terminal that is closed, --continue types
 the rest; --from goes on at a line of the text. A text that stands there already, or of
-which a part does, isn't typed once more without --again.
+which an import of yours was cut short, isn't typed once more without --again.
 DOCX, ODT, EPUB, HTML and Markdown are read by pandoc, and RTF and DOC by LibreOffice, if
 these are installed; which of them it is, is found. Headings become headings. What a book
 can't hold, as emphasis and the form of tables, is said before anything is typed, and so is
@@ -100,13 +100,14 @@ def _add_choices(parser: ArgumentParser) -> None:
         metavar="PAIRS",
         type=readable,
         help="a file of lines, each with characters, a tab, and what stands in their place; they"
-        " are kept for the book",
+        " are kept for what you import into the book next",
     )
     parser.add_argument(
         "--report",
         metavar="REPORT",
         type=Path,
-        help="write all that is lost of a document to this file",
+        help="write all that is lost of a document to this file, which replaces an older report"
+        " and nothing else",
     )
 
 

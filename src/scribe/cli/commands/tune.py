@@ -32,6 +32,7 @@ EXAMPLE = """\
 scribe tune moon.braildesk en-ueb-g1.ctb
 scribe tune moon.braildesk en-ueb-g1.ctb --apply"""
 _INDENT = "    "
+_NOTHING_CHANGED = "Nothing was changed. With --apply the rules are put into the book."
 
 
 def add_parser(subparsers: Subparsers) -> ArgumentParser:
@@ -89,10 +90,17 @@ def run(arguments: Namespace, console: Console) -> Status:
         f" liblouis {tuned.liblouis}."
     )
     lines = [head, *_found(tuned, book)]
-    for line in lines:
-        console.show(*wrap(line, console.columns, _INDENT))
-    if tuned.mends:
-        _end(arguments, book, tuned, console)
+    shown = [part for line in lines for part in wrap(line, console.columns, _INDENT)]
+    if not (tuned.mends and arguments.apply):
+        console.show(*shown)
+        if tuned.mends:
+            console.say(_NOTHING_CHANGED)
+        return Status.DONE
+    try:
+        console.show(*_applied(arguments, book, tuned, console))
+    finally:
+        # which is of use as well where the rules can't be put into the book
+        console.show(*shown)
     return Status.DONE
 
 
@@ -105,19 +113,14 @@ def _found(tuned: Tuned, book: _Book) -> list[str]:
     return [*lines, *apart_lines(tuned.after, book.numbers)]
 
 
-def _end(arguments: Namespace, book: _Book, tuned: Tuned, console: Console) -> None:
-    """Puts the rules into the book's table, or says that nothing was changed."""
-    if not arguments.apply:
-        console.say(
-            "Nothing was changed. With --apply the rules are put into the book."
-        )
-        return
+def _applied(
+    arguments: Namespace, book: _Book, tuned: Tuned, console: Console
+) -> list[str]:
+    """Puts the rules into the book's table, and says so."""
     request = requests.Table(book.table.name, tuned.text, expect=book.version)
     with open_session(arguments, console) as session:
         done = session.ask(request)
-    console.show(
-        f"The rules are in the table {book.table.name}.", at_version(done.version)
-    )
+    return [f"The rules are in the table {book.table.name}.", at_version(done.version)]
 
 
 def _book(arguments: Namespace, console: Console) -> _Book:

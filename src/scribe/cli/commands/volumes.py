@@ -33,7 +33,7 @@ MORE = """\
 Without --pages the volumes are shown as they are. With --pages it is proposed where
 volumes begin so that none has more pages: at headings, and before another paragraph only
 where what is between two headings has too many pages by itself. As few volumes as can be
-are proposed, of a size as even as can be. --set does what is proposed."""
+are proposed, of a size as even as can be without more pages. --set does what is proposed."""
 EXAMPLE = """\
 scribe volumes moon.braildesk
 scribe volumes moon.braildesk --pages 80
@@ -107,9 +107,9 @@ def _set(
         changed += to_be_set(book, volumes)
         for _ in set_volumes(session, changed):
             pass
-        console.show(*volume_lines(session, book, volumes))
-        console.say(summary(volumes, page_size), *faults(volumes))
         console.say(*was_set(changed, session.last_version))
+    console.show(*volume_lines(session, book, volumes))
+    console.say(summary(volumes, page_size), *faults(volumes))
 
 
 def _pages(word: str) -> int:
