@@ -1475,7 +1475,7 @@ def test_a_program_that_takes_too_long_is_given_up(
         return unreadable(found.value)
 
     with monkeypatch.context() as patched:
-        patched.setattr(pandoc, "_SECONDS", 0.3)
+        patched.setattr(pandoc, "_IDLE_SECONDS", 0.3)
         assert given_up("exec sleep 60").startswith("takes pandoc more time than any")
     with monkeypatch.context() as patched:
         patched.setattr(pandoc, "_LEAST_SECONDS", 1)
@@ -1486,9 +1486,19 @@ def test_a_program_that_takes_too_long_is_given_up(
     assert given_up("echo none") == "can't be read by pandoc, which doesn't say why"
 
 
-def test_only_what_hangs_takes_too_long_by_the_clock() -> None:
-    # of four processors that a hundred programs want
-    assert pandoc._SECONDS > 25 * pandoc._MOST_SECONDS
+def test_a_program_that_works_is_waited_for_however_slow_it_is(
+    programs: Path, monkeypatch: pytest.MonkeyPatch
+) -> None:
+    monkeypatch.setattr(pandoc, "_IDLE_SECONDS", 0.5)
+    # also where another program does the work
+    busy = "import time\nwhile time.process_time() < 0.8: pass"
+    works = f"{sys.executable} -I -S -c '{busy}'"
+    program(programs, "pandoc", works, "echo slow >&2; exit 1")
+    began = time.monotonic()
+    with pytest.raises(UnreadableText) as found:
+        read_document(b"a", ManuscriptKind.MARKDOWN)
+    assert unreadable(found.value) == "can't be read by pandoc: slow"
+    assert time.monotonic() - began > 0.5
 
 
 @pytest.mark.parametrize(

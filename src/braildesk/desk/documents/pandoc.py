@@ -12,6 +12,7 @@ import signal
 import subprocess
 import tempfile
 from collections.abc import Sequence
+from contextlib import suppress
 from pathlib import Path
 from typing import IO, Any
 
@@ -27,10 +28,10 @@ from braildesk.desk.documents.kinds import (
 )
 from braildesk.desk.manuscript import UnreadableText
 
-#: How many seconds a document may take by the clock: more than all of those of a processor last where
-#: two dozen other programs want it, so that only what waits for something that never comes takes as long.
-_SECONDS = 3_600
-#: How many seconds of a processor one may take at most; and pandoc for a small one, and for how many
+#: How many seconds a program is waited for that has less than a hundredth of them of a processor: it waits for
+#: something that never comes, since one that works has more, even where two dozen others want it too.
+_IDLE_SECONDS, _SHARE = 120.0, 100
+#: How many seconds of a processor a document may take at most; and pandoc for a small one, and for how many
 #: bytes one more: it takes hours for a few brackets that nothing closes.
 _MOST_SECONDS, _LEAST_SECONDS, _BYTES_A_SECOND = 120, 20, 10_000
 #: How much pandoc may answer; the tree of a book is some fifty times as long as its print.
@@ -58,6 +59,9 @@ _NO_LINKS = """\
 _LEFT_OUT = re.compile(
     r"(?:Note with key|Duplicate note reference) '(.+?)' (?:defined )?at "
 )
+#: Where the system says of a process of which session it is, and how long it and those that it waited for had a
+#: processor.
+_SESSION, _TIMES = 3, slice(11, 15)
 #: The status by which programs made by GHC, as pandoc is, end where they get no more memory.
 _NO_MEMORY = 251
 #: What they say where something is nested too deeply for them.
@@ -149,14 +153,31 @@ def _run(
 
 
 def _wait(name: str, process: subprocess.Popen[bytes]) -> None:
-    """Waits for a program to end. If that takes too long, or this one is stopped, it is ended."""
+    """Waits for a program to end. If it does nothing any more, or this one is stopped, it is ended."""
+    spent = 0.0
     try:
-        process.wait(_SECONDS)
-    except subprocess.TimeoutExpired as fault:
-        raise BrokenOff(name, Spent.TIME) from fault
+        while True:
+            with suppress(subprocess.TimeoutExpired):
+                process.wait(_IDLE_SECONDS)
+                return
+            before, spent = spent, _spent(process.pid)
+            if spent - before < _IDLE_SECONDS / _SHARE:
+                raise BrokenOff(name, Spent.TIME)
     finally:
         if process.poll() is None:
             os.killpg(process.pid, signal.SIGKILL)
+
+
+def _spent(session: int) -> float:
+    """How many seconds of a processor the programs of a session have had that are running."""
+    ticks = 0
+    for each in Path("/proc").glob("[0-9]*/stat"):
+        with suppress(OSError):
+            # the name of a program may have anything
+            fields = each.read_text(errors="replace").rpartition(")")[2].split()
+            if int(fields[_SESSION]) == session:
+                ticks += sum(map(int, fields[_TIMES]))
+    return ticks / os.sysconf("SC_CLK_TCK")
 
 
 def _failure(name: str, status: int, errors: bytes) -> UnreadableText:
