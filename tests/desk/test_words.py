@@ -96,19 +96,34 @@ def test_a_window_needs_a_screen(moon: Path) -> None:
     )
 
 
-def test_a_window_needs_pyqt6(moon: Path, tmp_path: Path) -> None:
-    missing = "raise ImportError('there is none')"
+@pytest.mark.parametrize(
+    "missing, said",
+    [
+        (
+            "ModuleNotFoundError('there is none', name='PyQt6')",
+            "scribe window needs PyQt6, which is not installed. Debian has it as python3-pyqt6."
+            " scribe edit shows a book in a terminal without it.\n",
+        ),
+        (
+            "ImportError('libQt6Core.so.6: cannot allocate memory')",
+            "What is needed here can't be loaded (libQt6Core.so.6: cannot allocate memory).\n",
+        ),
+        (
+            "ModuleNotFoundError('No module named scribe.window.desk', name='scribe.window.desk')",
+            "What is needed here can't be loaded (No module named scribe.window.desk).\n",
+        ),
+    ],
+)
+def test_a_window_needs_pyqt6(
+    missing: str, said: str, moon: Path, tmp_path: Path
+) -> None:
     (tmp_path / "PyQt6").mkdir()
-    (tmp_path / "PyQt6" / "__init__.py").write_text(missing)
+    (tmp_path / "PyQt6" / "__init__.py").write_text(f"raise {missing}")
     modules = f"{tmp_path}:{ROOT / 'src'}"
     ran = scribe(
         "window", moon.name, folder=moon.parent, DISPLAY=":9", PYTHONPATH=modules
     )
-    assert (ran.status, ran.shown) == (3, "")
-    assert ran.said == (
-        "scribe window needs PyQt6, which is not installed. Debian has it as python3-pyqt6."
-        " scribe edit shows a book in a terminal without it.\n"
-    )
+    assert ran == Ran(3, "", said)
 
 
 def test_help_names_all_commands(tmp_path: Path) -> None:

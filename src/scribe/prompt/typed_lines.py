@@ -18,7 +18,7 @@ from types import FrameType, TracebackType
 from typing import Protocol, Self
 
 from scribe.words.console import Console
-from scribe.words.status import Interrupted, Status, Stop
+from scribe.words.status import Interrupted, Stop, not_loaded
 
 # where a terminal that collects lines cuts them, by n_tty(4)
 CUT_BYTES = 4_095
@@ -102,11 +102,12 @@ class TypedLines(AbstractContextManager["TypedLines"]):
         # imported here, since it prepares the terminal and takes the locale of this moment
         try:
             import readline
-        except ImportError:
-            raise Stop(
+        except ImportError as missing:
+            raise not_loaded(
+                missing,
+                "readline",
                 f"{sys.executable}, by which scribe runs, lacks the module readline, without"
                 " which lines can't be typed. Run scribe by another Python.",
-                Status.FAILED,
             ) from None
         self._readline = readline
         for setting in _SETTINGS:

@@ -78,6 +78,14 @@ def stopped_by(cause: KeyboardInterrupt) -> str:
     return f"Stopped by {ENDED_BY.get(number, number.name)}."
 
 
+def not_loaded(missing: ImportError, module: str, sentence: str) -> Stop:
+    """Stops since something can't be imported: by a sentence, if a module of others isn't installed."""
+    is_there = not isinstance(missing, ModuleNotFoundError)
+    if is_there or (missing.name or "").partition(".")[0] != module:
+        sentence = f"What is needed here can't be loaded ({missing})."
+    return Stop(sentence, Status.FAILED)
+
+
 @contextmanager
 def in_sentences(may_change: Callable[[], bool] = lambda: True) -> Iterator[None]:
     """Stops by a sentence at a problem, and if the system refuses something.

@@ -17,7 +17,7 @@ from scribe.prompt.typed_lines import are_typed
 from scribe.words import encoding
 from scribe.words.aftermath import tell_end
 from scribe.words.console import Console
-from scribe.words.status import Interrupted, Status, Stop
+from scribe.words.status import Interrupted, Status, Stop, not_loaded
 
 if TYPE_CHECKING:
     from scribe.screen.desk import Desk
@@ -63,11 +63,12 @@ def run(arguments: Namespace, console: Console) -> Status:
         from scribe.screen.desk import Desk
         from scribe.screen.state import Size
         from scribe.screen.terminal import Screen
-    except ImportError:
-        raise Stop(
+    except ImportError as missing:
+        raise not_loaded(
+            missing,
+            "prompt_toolkit",
             "scribe edit needs prompt_toolkit, which is not installed. Debian has it as"
             " python3-prompt-toolkit. scribe talk works without it.",
-            Status.FAILED,
         ) from None
     desk = Desk(arguments.file, arguments.wait, console.waiting())
     columns, lines = shutil.get_terminal_size()

@@ -8,7 +8,7 @@ from scribe.cli.page_size import add_page_size, page_size_of
 from scribe.cli.parser import Subparsers, add_file, command_parser, words
 from scribe.words.aftermath import tell_end
 from scribe.words.console import Console
-from scribe.words.status import Status, Stop
+from scribe.words.status import Status, Stop, not_loaded
 
 MORE = """\
 The paragraphs are a table, and of the chosen one the print and the braille are shown, each
@@ -46,11 +46,12 @@ def run(arguments: Namespace, console: Console) -> Status:
     try:
         # imported here, since only this command needs PyQt6
         from scribe.window.application import Application, NoBook
-    except ImportError:
-        raise Stop(
+    except ImportError as missing:
+        raise not_loaded(
+            missing,
+            "PyQt6",
             "scribe window needs PyQt6, which is not installed. Debian has it as python3-pyqt6."
             " scribe edit shows a book in a terminal without it.",
-            Status.FAILED,
         ) from None
     from braildesk import DeskError
 
