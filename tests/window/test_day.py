@@ -1,5 +1,6 @@
 """A day at the window, by the keyboard alone, as a screen reader follows it."""
 
+import shutil
 from pathlib import Path
 
 from braildesk import Session
@@ -195,3 +196,26 @@ def test_a_refusal_takes_the_focus_and_nothing_that_is_typed_is_lost(
     window.press("Ctrl+q")
     assert window.end() == 0
     assert prints(moon)[0] == "The Moon"
+
+
+def test_a_book_that_is_gone_is_saved_also_once_scribe_was_taken_away(
+    moon: Path, at: Open, tmp_path: Path
+) -> None:
+    ignored = shutil.ignore_patterns("__pycache__")
+    modules = tmp_path / "modules"
+    shutil.copytree(Path(__file__).parents[2] / "src", modules, ignore=ignored)
+    window = at(moon, PYTHONPATH=str(modules))
+    window.focus("table", "Paragraphs")
+    window.press("F4")
+    window.focus("text", "Print")
+    shutil.rmtree(modules)
+    window.press("Right")
+    window.type("o")
+    window.press("Return")
+    window.reads("Message", "Kept: correction 1 of paragraph 2.")
+    moon.unlink()
+    window.press("Ctrl+r")
+    saved = moon.with_name("moon.braildesk-saved-1")
+    window.until("the new file", saved.exists)
+    with Session(saved, timeout=120) as session:
+        assert session.print_of(2) == "The moon is far away."

@@ -11,6 +11,7 @@ from typing import TYPE_CHECKING
 
 from braildesk import Lost
 
+from scribe.cli.own_modules import hold_modules
 from scribe.cli.page_size import add_page_size, page_size_of
 from scribe.cli.parser import Subparsers, add_file, command_parser, words
 from scribe.prompt.typed_lines import are_typed
@@ -70,6 +71,7 @@ def run(arguments: Namespace, console: Console) -> Status:
             "scribe edit needs prompt_toolkit, which is not installed. Debian has it as"
             " python3-prompt-toolkit. scribe talk works without it.",
         ) from None
+    hold_modules()
     desk = Desk(arguments.file, arguments.wait, console.waiting())
     columns, lines = shutil.get_terminal_size()
     environment = encoding.first_environment()

@@ -11,6 +11,7 @@ from braildesk.text.characters import visible
 
 from scribe.cli import prompt_words
 from scribe.cli.opened_book import open_session
+from scribe.cli.own_modules import hold_modules
 from scribe.cli.commands import AT_PROMPT
 from scribe.cli.parser import (
     Subparsers,
@@ -104,7 +105,10 @@ def run(arguments: Namespace, console: Console) -> Status:
 
 
 def _lines(console: Console) -> AbstractContextManager[Lines]:
-    return TypedLines() if are_typed() else nullcontext[Lines](PipedLines(console))
+    if not are_typed():
+        return nullcontext[Lines](PipedLines(console))
+    hold_modules()
+    return TypedLines()
 
 
 def _talk(conversation: Conversation, file: Path) -> Lost | None:

@@ -9,6 +9,7 @@ from braildesk import DeskError, Failed
 from braildesk.text.sequences import composed
 from braildesk.text.wrapping import columns, wrap
 
+from scribe.cli.own_modules import hold_modules
 from scribe.cli.parser import Subparsers, add_width, command_parser
 from scribe.prompt.trial import Trial
 from scribe.prompt.typed_lines import (
@@ -116,7 +117,10 @@ def run(arguments: Namespace, console: Console) -> Status:
 
 
 def _lines(console: Console) -> AbstractContextManager[Lines]:
-    return TypedLines() if are_typed() else nullcontext[Lines](PipedLines(console))
+    if not are_typed():
+        return nullcontext[Lines](PipedLines(console))
+    hold_modules()
+    return TypedLines()
 
 
 def _text(line: bytes) -> str:

@@ -4,6 +4,7 @@ import os
 from argparse import ArgumentParser, Namespace
 
 from scribe.cli.endings import say_last
+from scribe.cli.own_modules import hold_modules
 from scribe.cli.page_size import add_page_size, page_size_of
 from scribe.cli.parser import Subparsers, add_file, command_parser, words
 from scribe.words.aftermath import tell_end
@@ -55,6 +56,7 @@ def run(arguments: Namespace, console: Console) -> Status:
         ) from None
     from braildesk import DeskError
 
+    hold_modules()
     size = page_size_of(arguments)
     words = arguments.file, arguments.by, arguments.wait, size
     try:
