@@ -241,6 +241,11 @@ def _copied(
                 version = _checked(made, copied, book, named, program)
                 _finish(source, made, copied)
                 _put(made, target)
+    except FileIsThere:
+        if replaces is None:
+            raise
+        # it was put there in this moment, and is to be replaced too
+        return _copied(book, named, replaces, program)
     except (OSError, ValueError) as error:
         raise _not_written(named, _why(error)) from error
     return version

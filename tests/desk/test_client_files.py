@@ -420,6 +420,16 @@ def test_a_file_that_appeared_while_a_book_was_copied_stays(
     assert names(tmp_path) == {book.name, "copied"}
 
 
+def test_a_book_that_appeared_while_another_was_copied_is_replaced_if_that_is_asked(
+    book: Path, tmp_path: Path, monkeypatch: pytest.MonkeyPatch
+) -> None:
+    other, to = tmp_path / "other", tmp_path / "copied"
+    braildesk.new_book(other)
+    meanwhile(monkeypatch, lambda: braildesk.copy(other, to))
+    assert braildesk.copy(book, to, overwrite=True) == 1
+    assert braildesk.check(to) == 1
+
+
 @pytest.mark.parametrize("why", [Why.NO_ROOM, Why.READ_ONLY, Why.DENIED])
 def test_a_copy_that_can_not_be_opened_for_its_own_disk_is_said_of_the_copy(
     book: Path, tmp_path: Path, monkeypatch: pytest.MonkeyPatch, why: Why
