@@ -1,5 +1,6 @@
 """The program braildesk: where it is, and what it does without a session."""
 
+import errno
 import os
 import re
 import stat
@@ -386,9 +387,11 @@ def _in_memory(text: bytes, what: str) -> Iterator[int]:
 
 
 def _no_room(what: str, error: OSError) -> Failed:
+    is_limited = error.errno == errno.EFBIG
+    limit = "Set a higher limit on the size of files (ulimit -f)"
     return Failed(
         f"The {what} could not be kept in memory: {error.strerror}. Nothing was"
-        " translated. Close other programs, and try again."
+        f" translated. {limit if is_limited else 'Close other programs'}, and try again."
     )
 
 

@@ -368,19 +368,32 @@ def test_a_preview_needs_no_file_that_something_else_may_clean_away(
     Tables().put("small", b"letter c 25\n")
 
 
+@pytest.mark.parametrize(
+    "number, said",
+    [
+        (
+            errno.EMFILE,
+            "Too many open files. Nothing was translated. Close other programs, and try again.",
+        ),
+        (
+            errno.EFBIG,
+            "File too large. Nothing was translated. Set a higher limit on the size of files"
+            " (ulimit -f), and try again.",
+        ),
+    ],
+)
 def test_a_preview_by_a_table_that_cannot_be_handed_over_says_so(
-    program: str, monkeypatch: pytest.MonkeyPatch
+    program: str, monkeypatch: pytest.MonkeyPatch, number: int, said: str
 ) -> None:
     def full(name: str) -> int:
-        raise OSError(errno.EMFILE, os.strerror(errno.EMFILE))
+        raise OSError(number, os.strerror(number))
 
     monkeypatch.setattr(os, "memfd_create", full)
     tables = Tables()
     tables.put("small", b"letter c 25\n")
     assert tables.preview("small", "c", "c") == Preview(
         "c",
-        fault="There is no preview. The text of a table could not be kept in memory: Too many open"
-        " files. Nothing was translated. Close other programs, and try again.",
+        fault=f"There is no preview. The text of a table could not be kept in memory: {said}",
     )
     assert tables.first_fault("small", ["a"]) == ""
 
