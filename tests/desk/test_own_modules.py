@@ -1,6 +1,8 @@
 """Books that are open while scribe is installed anew: what is imported then is of the version that runs."""
 
 import shutil
+import subprocess
+import sys
 from collections.abc import Callable
 from pathlib import Path
 
@@ -8,9 +10,11 @@ import pytest
 
 from braildesk import Session
 
+from scribe.cli import endings
+from scribe.cli.own_modules import hold_modules
 from prompted import Prompted
 from terminal import Open
-from tool import ROOT
+from tool import ROOT, WAIT_SECONDS, environment
 
 
 @pytest.fixture
@@ -67,3 +71,44 @@ def test_all_that_can_be_asked_at_a_prompt_is_answered(
     ]
     assert talk.type("find far")[-1] == "Found “far” once."
     assert talk.end("quit\r").status == 0
+
+
+@pytest.mark.parametrize("change", [install_anew, take_away])
+def test_a_command_that_runs_meanwhile_says_so(
+    change: Callable[[Path], None], moon: Path, modules: Path
+) -> None:
+    with subprocess.Popen(
+        [sys.executable, "-m", "scribe", "run", moon],
+        env=environment(PYTHONPATH=str(modules)),
+        stdin=subprocess.PIPE,
+        stdout=subprocess.PIPE,
+        stderr=subprocess.PIPE,
+        encoding="utf-8",
+    ) as run:
+        assert run.stdin and run.stdout
+        run.stdin.write("style 1 heading\n")
+        run.stdin.flush()
+        assert run.stdout.readline() == "ok 8\n"
+        change(modules)
+        _, said = run.communicate("style 9 heading\n", WAIT_SECONDS)
+    assert run.returncode == 3
+    assert said.startswith(
+        "scribe was installed anew or taken away while it ran, and stopped ("
+    )
+    assert said.endswith(
+        "What was reported as kept is in the book, and what was asked after that may be there too."
+        " Try again.\n"
+    )
+
+
+def test_a_fault_is_one_where_the_modules_of_the_beginning_are_held(
+    monkeypatch: pytest.MonkeyPatch,
+) -> None:
+    monkeypatch.setattr(endings, "_BEGAN", 0.0)
+    monkeypatch.setattr(sys, "meta_path", [*sys.meta_path])
+    assert endings.of_fault(KeyError("x"), "Done.") == (
+        "scribe was installed anew or taken away while it ran, and stopped (KeyError). Done. Try"
+        " again."
+    )
+    hold_modules()
+    assert "has a fault of its own" in endings.of_fault(KeyError("x"), "Done.")

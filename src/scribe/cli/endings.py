@@ -6,6 +6,7 @@ Whatever happens, somebody reads a sentence about it, and no status says more th
 import os
 import signal
 import sys
+import time
 from argparse import Namespace
 from collections.abc import Callable
 from contextlib import suppress
@@ -30,6 +31,10 @@ _SIGNALS = (
 )
 #: When a signal comes again that was dropped, in seconds.
 _SOON = 0.01
+#: When none of its modules was imported yet, in seconds of the clock.
+_BEGAN = time.time() - 1
+#: What holds the modules of the beginning where a book is open for long.
+_HOLDER = "scribe.cli.own_modules"
 _IN_THE_BOOK = "What was reported as kept is in the book, and what was asked after that may be there too."
 _NOTHING_CHANGED = "No book was changed."
 
@@ -151,6 +156,11 @@ def of_fault(fault: Exception, kept: str) -> str:
         return (
             f"There was no memory for this. {kept} Close other programs, and try again."
         )
+    if _is_replaced():
+        return (
+            "scribe was installed anew or taken away while it ran, and stopped"
+            f" ({type(fault).__name__}). {kept} Try again."
+        )
     import traceback  # which nobody hopes for
 
     last = traceback.extract_tb(fault.__traceback__)[-1:]
@@ -164,6 +174,24 @@ def of_fault(fault: Exception, kept: str) -> str:
             f" {error.strerror}."
         )
     return f"{what} {kept} Please report it with its details, which are in {path}."
+
+
+def _is_replaced() -> bool:
+    """Whether a module of scribe was put in place, or taken away, after it was imported here.
+
+    Not where those of the beginning are held, so that all are of one version.
+    """
+    if any(type(each).__module__ == _HOLDER for each in sys.meta_path):
+        return False
+    for name, module in tuple(sys.modules.items()):
+        path = getattr(module, "__file__", None)
+        if path and name.partition(".")[0] in ("braildesk", "scribe"):
+            try:
+                if os.stat(path).st_ctime > _BEGAN:
+                    return True
+            except FileNotFoundError:
+                return True
+    return False
 
 
 def say_last(sentence: str) -> None:
