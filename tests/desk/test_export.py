@@ -115,6 +115,25 @@ def test_files_of_pages_that_are_not_written_anew_are_named_and_left(
     assert (out / "moon-2-changed.brf").read_bytes() == b"older"
 
 
+def test_a_link_of_a_volumes_name_is_not_called_a_file_of_an_earlier_export(
+    moon: Path,
+) -> None:
+    out = moon.with_name("out")
+    out.mkdir()
+    (out / "moon-2.brf").write_bytes(b"older")
+    for name in ("moon-3.brf", "moon-1-changed.brf"):
+        (out / name).symlink_to("moon-2.brf")
+    os.mkfifo(out / "moon-4.brf")
+    ran = scribe("export", moon, "out", folder=moon.parent)
+    assert (ran.status, ran.said) == (
+        0,
+        "Left from an earlier export, of volumes that the book has no more:"
+        " out/moon-2.brf.\n"
+        "In the folder by the name of a file of pages, but no file: out/moon-1-changed.brf,"
+        " out/moon-3.brf, out/moon-4.brf.\n",
+    )
+
+
 def test_a_book_without_volumes_writes_none(book: Path) -> None:
     ran = scribe("export", book, "out", folder=book.parent)
     assert ran == Ran(

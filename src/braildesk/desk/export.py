@@ -17,6 +17,8 @@ from braildesk.named_files import read_file
 TRIES = 3
 #: How many bytes of an older file are compared: more than those of any volume.
 MOST_BYTES = 1 << 28
+#: How the name of a file of single pages goes on after the number of its volume.
+_OF_PAGES = "-(?:changed|pages-[0-9,-]+)"
 
 
 @dataclass(frozen=True)
@@ -53,25 +55,31 @@ class Job:
 
     def later_files(self, volumes: int) -> list[Path]:
         """Files of volumes that the book doesn't have, in their order."""
-        form = re.compile(re.escape(self.name) + r"-([1-9][0-9]{0,4})\.brf")
-        found = {
-            int(match[1]): path
-            for path in self.folder.iterdir()
-            if (match := form.fullmatch(path.name))
-        }
+        found = {number: path for number, path in self._named("") if _is_file(path)}
         return [found[volume] for volume in sorted(found) if volume > volumes]
 
     def files_of_pages(self) -> list[Path]:
         """Files of single pages of any volumes, in their order."""
-        form = re.compile(
-            re.escape(self.name) + r"-([1-9][0-9]{0,4})-(changed|pages-[0-9,-]+)\.brf"
-        )
-        found = {
-            (int(match[1]), path.name): path
-            for path in self.folder.iterdir()
-            if (match := form.fullmatch(path.name))
-        }
+        its = self._named(_OF_PAGES)
+        found = {(number, path.name): path for number, path in its if _is_file(path)}
         return [found[key] for key in sorted(found)]
+
+    def no_files(self) -> list[Path]:
+        """What has the name of such a file and is none, as a link that somebody else put there."""
+        its = self._named(f"(?:{_OF_PAGES})?")
+        return sorted(path for _, path in its if not _is_file(path))
+
+    def _named(self, ending: str) -> Iterator[tuple[int, Path]]:
+        """What has the name of a volume with such an ending, and the number of that."""
+        form = re.compile(re.escape(self.name) + rf"-([1-9][0-9]{{0,4}}){ending}\.brf")
+        for path in self.folder.iterdir():
+            if match := form.fullmatch(path.name):
+                yield int(match[1]), path
+
+
+def _is_file(path: Path) -> bool:
+    """Whether it is a file, and no link to one."""
+    return not path.is_symlink() and path.is_file()
 
 
 @dataclass(frozen=True)

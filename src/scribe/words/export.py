@@ -174,8 +174,9 @@ def _ending(job: Job, made: Export) -> list[str]:
         older = [
             str(path) for path in job.files_of_pages() if path not in made.changed_files
         ]
+        others = [str(path) for path in job.no_files()]
     except OSError as error:
-        later = older = []
+        later = older = others = []
         sentences.append(f"The folder {job.folder} can't be listed: {error.strerror}.")
     if later:
         sentences.append(
@@ -185,5 +186,9 @@ def _ending(job: Job, made: Export) -> list[str]:
     if older:
         sentences.append(
             f"Left from an earlier export, of single pages: {', '.join(older)}."
+        )
+    if others:
+        sentences.append(
+            f"In the folder by the name of a file of pages, but no file: {', '.join(others)}."
         )
     return sentences
