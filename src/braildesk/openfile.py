@@ -66,7 +66,11 @@ class _LogState:
 
 
 class OpenFile:
-    """A file that is held open beside the program, so that it is known when its name is taken away."""
+    """A file that is held open beside the program, so that it is known when its name is taken away.
+
+    What can't be looked at any more, as on a disk that was taken away, is said to be as it was: the
+    program fails at it too.
+    """
 
     def __init__(self, path: str) -> None:
         #: Where the path leads.
@@ -115,7 +119,9 @@ class OpenFile:
         noted = self._log_noted
         if self._is_log_foreign or self._log is None or noted is None:
             return self._is_log_foreign
-        return not self.is_log_lent and _log_state(self._log, noted.last) != noted
+        with suppress(OSError):
+            return not self.is_log_lent and _log_state(self._log, noted.last) != noted
+        return False
 
     @property
     def moved_to(self) -> str | None:
@@ -137,6 +143,10 @@ class OpenFile:
         if self._log is None:
             with suppress(OSError):
                 self._log = _opened_log(f"{self.path}-wal")
+        with suppress(OSError):
+            self._note_opened_log(kept)
+
+    def _note_opened_log(self, kept: int) -> None:
         if self._log is not None:
             before = self._log_noted
             is_longer = before is not None and _has_part(self._log, before)
@@ -161,9 +171,11 @@ class OpenFile:
         """
         if self._descriptor is None or not self._was_database:
             return False
-        size = os.fstat(self._descriptor).st_size
-        self._most = max(self._most, size)
-        return size < self._most or not self._is_database(self._descriptor)
+        with suppress(OSError):
+            size = os.fstat(self._descriptor).st_size
+            self._most = max(self._most, size)
+            return size < self._most or not self._is_database(self._descriptor)
+        return False
 
     @property
     def is_used(self) -> bool:
@@ -185,8 +197,9 @@ class OpenFile:
     def note(self) -> None:
         """Notes what the file holds, while the program waits for a request and writes nothing."""
         if self._descriptor is not None and self._was_database:
-            self._noted = _noted(self._descriptor, self._front())
-            self._is_lent = False
+            with suppress(OSError):
+                self._noted = _noted(self._descriptor, self._front())
+                self._is_lent = False
 
     def lend(self) -> None:
         """Says that the program gets a command, for which it may write into the file and the log."""
@@ -233,6 +246,11 @@ class OpenFile:
         noted, descriptor = self._noted, self._descriptor
         if noted is None or descriptor is None:
             return False
+        with suppress(OSError):
+            return self._is_other(noted, descriptor)
+        return False
+
+    def _is_other(self, noted: _Noted, descriptor: int) -> bool:
         front = self._front() if self._is_lent else noted.front
         is_same = (_state(descriptor), front) == (noted.state, noted.front)
         if is_same and not noted.is_fresh:
@@ -314,7 +332,9 @@ class OpenFile:
         """Holds the file and the log no longer."""
         for each in (self._descriptor, self._log):
             if each is not None:
-                os.close(each)
+                # a server that has ended is asked once more by that
+                with suppress(OSError):
+                    os.close(each)
         if self._watch is not None:
             self._watch.close()
         self._descriptor = self._log = self._watch = None

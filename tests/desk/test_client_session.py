@@ -1,5 +1,6 @@
 """Sessions: many requests ahead of their replies, framing, and what is left of a killed one."""
 
+import errno
 import gc
 import os
 import re
@@ -1349,6 +1350,45 @@ def test_what_is_in_a_log_that_is_removed_comes_into_the_file(
     shutil.copyfile(book, other)
     with Session(other) as session:
         assert [session.print_of(each.id) for each in session.paragraphs()] == ["One."]
+
+
+@pytest.mark.parametrize(
+    "go_on",
+    [lambda s: s.add_paragraph("end", "en", "One."), Session.version, Session.close],
+)
+@pytest.mark.parametrize("is_killed", [False, True])
+def test_a_disk_that_is_taken_away_ends_a_session_by_what_the_program_says(
+    book: Path,
+    go_on: Callable[[Session], object],
+    is_killed: bool,
+    monkeypatch: pytest.MonkeyPatch,
+) -> None:
+    session, close = Session(book), os.close
+    session.add_paragraph("end", "en", "One.")
+
+    def unreadable(*given: Any) -> Any:
+        raise OSError(errno.ENOTCONN, os.strerror(errno.ENOTCONN))
+
+    def closed(file: int) -> None:
+        is_there = "book" in os.readlink(f"/proc/self/fd/{file}")
+        close(file)
+        if is_there:
+            unreadable()
+
+    # as of a file system whose server has ended
+    for look in ("fstat", "pread"):
+        monkeypatch.setattr(os, look, unreadable)
+    monkeypatch.setattr(os, "close", closed)
+    if is_killed:
+        os.kill(session.pid, signal.SIGKILL)
+        with pytest.raises(SessionEnded, match="All up to it is in the book."):
+            go_on(session)
+    else:
+        go_on(session)
+    monkeypatch.undo()
+    session.close()
+    with Session(book) as again:
+        assert again.print_of(1) == "One."
 
 
 @pytest.mark.parametrize("kind", ["folder", "pipe", "link"])
