@@ -101,8 +101,8 @@ def _new_book(
     except OSError as error:
         if error.errno == errno.ENAMETOOLONG:
             raise NotMade(
-                f"“{asked.path}”, or the path of its log, which ends in -wal besides, is too long."
-                " Nothing was made. Take a shorter one."
+                f"“{asked.path}”, or the path of a file beside it, which ends in -journal besides, is too"
+                " long. Nothing was made. Take a shorter one."
             ) from None
         why = opening.OF_ROOM.get(error.errno or 0) or opening.why(asked)
         raise cannot_open(asked, why) from None

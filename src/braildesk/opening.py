@@ -230,6 +230,8 @@ def _is_database(log: str) -> bool:
 def why_no_log(log: str) -> Why | None:
     """Why nothing can be looked for in a log, if that is so."""
     try:
+        # the program looks for that too
+        has_journal(log.removesuffix("-wal"))
         return None if is_log(log) else Why.NO_LOG
     except OSError as error:
         if error.errno == errno.ENAMETOOLONG:
@@ -282,7 +284,9 @@ def has_journal(path: str) -> bool:
     except PermissionError:
         # the program takes one that it can't look at for such a journal
         return True
-    except OSError:
+    except OSError as error:
+        if error.errno == errno.ENAMETOOLONG:
+            raise
         return False
 
 

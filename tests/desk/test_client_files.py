@@ -686,11 +686,14 @@ def test_a_book_beside_which_its_disk_takes_no_file_more_says_so(
     assert opening.why(BookFile(str(book))) is why
 
 
-def test_a_book_whose_log_would_have_too_long_a_name_says_so(
-    book: Path, tmp_path: Path
+@pytest.mark.parametrize("length", [248, 253])
+def test_a_book_beside_which_a_file_would_have_too_long_a_name_says_so(
+    book: Path, tmp_path: Path, length: int
 ) -> None:
-    long = book.rename(tmp_path / ("m" * 253))
-    assert opening.why(BookFile(str(long))) is Why.LONG_NAME
+    long = book.rename(tmp_path / ("m" * length))
+    with pytest.raises(CannotOpen) as opened:
+        Session(long)
+    assert opened.value.why is Why.LONG_NAME
     with pytest.raises(CannotOpen) as copied:
         braildesk.copy(long, tmp_path / "copy")
     with pytest.raises(CannotOpen) as looked_at, snapshot(long):
@@ -1728,20 +1731,21 @@ def test_a_new_book_is_not_made_beside_the_work_of_another(book: Path) -> None:
     assert log.read_bytes() == work
 
 
-@pytest.mark.parametrize("length", [252, 256])
-def test_a_new_book_whose_name_is_too_long_for_that_of_its_log_says_so(
+@pytest.mark.parametrize("length", [248, 252, 256])
+def test_a_new_book_whose_name_is_too_long_for_those_of_files_beside_it_says_so(
     tmp_path: Path, length: int
 ) -> None:
     path = tmp_path / (length * "n")
     with pytest.raises(NotMade) as caught:
         braildesk.new_book(path)
     assert caught.value.sentence == (
-        f"“{path}”, or the path of its log, which ends in -wal besides, is too long. Nothing was"
-        " made. Take a shorter one."
+        f"“{path}”, or the path of a file beside it, which ends in -journal besides, is too long."
+        " Nothing was made. Take a shorter one."
     )
-    longest = tmp_path / (251 * "n")
+    longest = tmp_path / (247 * "n")
     braildesk.new_book(longest)
     assert names(tmp_path) == {longest.name}
+    assert braildesk.check(longest) == 0
 
 
 def test_where_a_book_was_removed_a_new_one_may_be_made(book: Path) -> None:

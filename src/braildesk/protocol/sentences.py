@@ -190,8 +190,8 @@ UNOPENED = MappingProxyType(
         Why.NO_LOG: "What stands at {log} is no log of its own, but a link, a folder, a pipe, a book"
         " or another such thing, and the newest work of {path} would be looked for there. {nothing}"
         " Move it away, or ask an administrator to do so where its folder doesn't let you.",
-        Why.LONG_NAME: "The path {path} is too long for a book: that of its log, which ends in -wal"
-        " besides, can't be made. {nothing} Give the file a shorter name.",
+        Why.LONG_NAME: "The path {path} is too long for a book: those of the files beside it, which end in"
+        " -wal and -journal besides, can't all be looked for. {nothing} Give the file a shorter name.",
         Why.JOURNAL: "Beside {path} lies {journal}, which braildesk never makes: another program"
         " was stopped while it changed that file, or somebody put it there. {nothing}"
         " Keep both files, and go on with an earlier copy.",
