@@ -460,7 +460,8 @@ def _word(asked: AskedOfFile) -> str:
         raise cannot_open(asked, Why.NO_PATH)
     if not opening.is_file_or_free(word):
         raise cannot_open(asked, Why.NO_FILE)
-    return word
+    # SQLite takes such a path for an address, and another one for no file at all
+    return f"./{word}" if word.startswith(("file:", ":")) else word
 
 
 def _is_within(number: int, limit: tuple[int, int]) -> bool:

@@ -1807,6 +1807,19 @@ def test_a_new_book_has_the_mode_that_the_umask_leaves(
         assert stat.S_IMODE(file.stat().st_mode) == mode
 
 
+@pytest.mark.parametrize("name", ["file:", "file:x?mode=ro", ":memory:", "a?b%23#"])
+def test_a_path_is_the_name_of_a_file_and_no_address(
+    name: str, tmp_path: Path, monkeypatch: pytest.MonkeyPatch
+) -> None:
+    monkeypatch.chdir(tmp_path)
+    braildesk.new_book(name, holding=[requests.Supply("en")])
+    with Session(name) as session:
+        session.add_paragraph("end", "en", "in the file")
+    assert (braildesk.check(name), read_version(Path(name))) == (2, 2)
+    assert braildesk.copy(name, "copy") == 2
+    assert names(tmp_path) == {name, f"{name}-wal", "copy"}
+
+
 def test_a_database_without_a_book_has_no_tables(tmp_path: Path) -> None:
     path = tmp_path / "other.db"
     with closing(sqlite3.connect(path)) as database:
