@@ -400,6 +400,9 @@ def _link(folder: int, name: str, target: Place) -> None:
     try:
         os.link(*names, src_dir_fd=folder, dst_dir_fd=target.folder)
         os.unlink(name, dir_fd=folder)
+        with suppress(OSError), target.opened(os.O_RDONLY) as file:
+            # else a file system of FUSE may say for a second that the file has both names
+            os.fchmod(file.fileno(), stat.S_IMODE(os.fstat(file.fileno()).st_mode))
     except OSError as error:
         if error.errno not in _NO_LINKS:
             raise

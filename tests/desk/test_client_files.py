@@ -760,6 +760,38 @@ def test_where_a_file_system_has_no_such_renaming_a_copy_is_linked(
     assert other.read_text() == "my notes"
 
 
+def test_where_a_file_system_still_counts_a_name_that_is_gone_a_copy_may_be_opened(
+    book: Path, tmp_path: Path, monkeypatch: pytest.MonkeyPatch
+) -> None:
+    def renamed(*_: object) -> None:
+        raise OSError(errno.EINVAL, "Invalid argument")
+
+    link, look, change = os.link, os.fstat, os.fchmod
+    counted: set[int] = set()
+
+    def linked(name: str, other: str, src_dir_fd: int, dst_dir_fd: int) -> None:
+        link(name, other, src_dir_fd=src_dir_fd, dst_dir_fd=dst_dir_fd)
+        counted.add(os.stat(other, dir_fd=dst_dir_fd).st_ino)
+
+    def looked(file: int) -> os.stat_result:
+        found = look(file)
+        names = 2 if found.st_ino in counted else found.st_nlink
+        return os.stat_result([*found[:3], names, *found[4:]])
+
+    def changed(file: int, mode: int) -> None:
+        change(file, mode)
+        # as of FUSE, which keeps what it was told of a file until that is changed
+        counted.discard(look(file).st_ino)
+
+    monkeypatch.setattr(workshop, "_rename", renamed)
+    monkeypatch.setattr(os, "link", linked)
+    monkeypatch.setattr(os, "fstat", looked)
+    monkeypatch.setattr(os, "fchmod", changed)
+    to = tmp_path / "copied"
+    assert braildesk.copy(book, to) == 1
+    assert len(braildesk.read_tables(to)) == 1
+
+
 @pytest.mark.parametrize("number", [errno.EPERM, errno.ENOSYS, errno.EOPNOTSUPP])
 def test_where_a_file_system_has_no_links_either_a_copy_is_made_and_replaces_nothing(
     book: Path, tmp_path: Path, monkeypatch: pytest.MonkeyPatch, number: int
