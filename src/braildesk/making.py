@@ -4,7 +4,7 @@ import errno
 import os
 import sqlite3
 from collections.abc import Callable, Iterator, Sequence
-from contextlib import ExitStack, closing, contextmanager
+from contextlib import ExitStack, closing, contextmanager, suppress
 from dataclasses import dataclass, replace
 from os import fspath
 from pathlib import Path
@@ -30,6 +30,7 @@ from braildesk.refusals import (
 from braildesk.session import Session
 from braildesk.workshop import (
     MayNotLast,
+    OthersLink,
     Place,
     Swapped,
     copy_bytes,
@@ -38,6 +39,7 @@ from braildesk.workshop import (
     made_beside,
     made_for_a_while,
     open_made,
+    own_path,
     place_of,
     put,
     put_over,
@@ -94,10 +96,11 @@ def _new_book(
     try:
         if not os.path.lexists(asked.path):
             _judge_log(asked.path, NotMade, "new book")
-            _make(asked, program, holding)
-            return
-    except FileExistsError:
-        pass  # another program made one in this moment
+            # unless another program makes one in this moment
+            with suppress(FileExistsError):
+                _make(asked, program, holding)
+                return
+        _followed(asked.path, NotMade, "made")
     except OSError as error:
         if error.errno == errno.ENAMETOOLONG:
             raise NotMade(
@@ -283,6 +286,7 @@ def _claimed(
             )
         if replaces is None:
             raise _taken(named)
+        path = _followed(named, NotCopied, "replaced")
         older = stack.enter_context(held(BookFile(named), os.O_RDWR))
         if not replaces(older):
             raise NotCopied(
@@ -291,6 +295,17 @@ def _claimed(
         place = stack.enter_context(place_of(path))
         _judge_place(place, older)
         yield _Target(named, path, place, older)
+
+
+def _followed(named: str, kind: type[NotMade], done: str) -> str:
+    """Where a path leads to a file that is written: others might lead that to any of this user."""
+    try:
+        return own_path(named)
+    except OthersLink as found:
+        raise kind(
+            f"The link “{found.link}” is another user's, and no book is {done} through it. Take the"
+            " path to which it leads, if that is what you mean, or another one."
+        ) from None
 
 
 def _judge_place(place: Place, older: BinaryIO) -> None:

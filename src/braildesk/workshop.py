@@ -41,6 +41,8 @@ _ACL, _ACL_BEGIN, _ACL_ENTRY = (
 )
 _ACL_FRONT = len(_ACL_BEGIN)
 _OF_OWNER, _OF_USER, _OF_GROUP = 0x01, 0x02, 0x04
+#: How many names and links a path is followed by at most.
+_MOST_STEPS = 5_000
 _FOLDER = os.O_PATH | os.O_DIRECTORY | os.O_NOFOLLOW | os.O_CLOEXEC
 
 
@@ -53,6 +55,14 @@ class Swapped(OSError):
 
     def __reduce__(self) -> tuple[type[Self], tuple[()]]:
         return type(self), ()
+
+
+class OthersLink(Exception):
+    """A link on the way of a path is of another user, who may have it lead anywhere."""
+
+    def __init__(self, link: str) -> None:
+        super().__init__(link)
+        self.link = link
 
 
 class MayNotLast(OSError):
@@ -94,12 +104,35 @@ class Place(Value):
 
 @contextmanager
 def place_of(path: str) -> Iterator[Place]:
-    """The place of a path in which no link is."""
-    folder = os.open(os.path.dirname(path), _FOLDER)
+    """The place of a path in which no link is, nor is followed if one is put there."""
+    folder = os.open("/", _FOLDER)
     try:
+        for name in filter(None, os.path.dirname(path).split("/")):
+            above, folder = folder, os.open(name, _FOLDER, dir_fd=folder)
+            os.close(above)
         yield Place(folder, os.path.basename(path))
     finally:
         os.close(folder)
+
+
+def own_path(path: str) -> str:
+    """Where a path leads by links of this user and of root alone; ``OthersLink`` at any other."""
+    left, here = os.path.join(os.getcwd(), path).split("/")[::-1], "/"
+    for _ in range(_MOST_STEPS):
+        if not left:
+            return here
+        at = os.path.join(here, left.pop())
+        found = os.lstat(at)
+        if not stat.S_ISLNK(found.st_mode):
+            # no link is in that, so that two full stops are its own folder
+            here = os.path.normpath(at)
+        elif found.st_uid in (0, os.geteuid()):
+            to = os.readlink(at)
+            left += to.split("/")[::-1]
+            here = "/" if to.startswith("/") else here
+        else:
+            raise OthersLink(at)
+    raise OSError(errno.ELOOP, os.strerror(errno.ELOOP))
 
 
 @contextmanager

@@ -1321,6 +1321,55 @@ def test_a_copy_that_replaces_a_book_through_a_link_leaves_the_link(
         assert session.paragraphs() == ()
 
 
+@NEEDS_ROOT
+@pytest.mark.parametrize("way", ["the book", "its folder", "a link of one's own"])
+def test_a_copy_replaces_no_book_through_a_link_of_another_user(
+    book: Path, tmp_path: Path, way: str
+) -> None:
+    private, shared = tmp_path / "private", tmp_path / "shared"
+    for folder in (private, shared):
+        folder.mkdir()
+    old = Path(shutil.copyfile(book, private / "old"))
+    shared.chmod(0o777)
+    lead_to(shared)
+    to = link = shared / "link"
+    if way == "its folder":
+        to = link / "old"
+        assert as_stranger(lambda: link.symlink_to("../private")) == ""
+    else:
+        assert as_stranger(lambda: link.symlink_to("../private/old")) == ""
+        if way != "the book":
+            to = tmp_path / "own"
+            to.symlink_to(link)
+    braildesk.new_book(other := tmp_path / "other")
+    with pytest.raises(NotCopied) as caught:
+        braildesk.copy(other, to, overwrite=True)
+    assert caught.value.sentence == (
+        f"The link “{link}” is another user's, and no book is replaced through it. Take the path to"
+        " which it leads, if that is what you mean, or another one."
+    )
+    assert braildesk.check(old) == 1
+    assert braildesk.copy(other, old, overwrite=True) == 0
+
+
+@NEEDS_ROOT
+def test_no_empty_file_becomes_a_book_through_a_link_of_another_user(
+    tmp_path: Path,
+) -> None:
+    shared, empty, link = (
+        tmp_path / name for name in ("shared", "empty", "shared/new")
+    )
+    shared.mkdir()
+    shared.chmod(0o777)
+    lead_to(shared)
+    empty.touch()
+    assert as_stranger(lambda: link.symlink_to("../empty")) == ""
+    with pytest.raises(NotMade, match="and no book is made through it"):
+        braildesk.new_book(link)
+    assert empty.read_bytes() == b""
+    braildesk.new_book(empty)
+
+
 def test_a_copy_is_not_put_where_a_link_leads_nowhere(
     book: Path, tmp_path: Path
 ) -> None:
