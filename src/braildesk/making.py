@@ -50,6 +50,8 @@ _ROOM = "Let TMPDIR name a folder with room."
 _OF_PLACE = (Why.NO_ROOM, Why.OVER_QUOTA, Why.READ_ONLY, Why.DENIED)
 #: Whether the copy takes the place of a file that is held.
 _Replaces = Callable[[BinaryIO], bool]
+#: How the names end of what a program may look for beside a book.
+_BESIDE = ("-wal", "-shm", "-journal")
 #: What may be of a file whose folder isn't on the disk yet.
 _GONE, _OLDER = "it may be gone", "the older file may be there"
 
@@ -323,9 +325,15 @@ def _taken(named: str) -> FileIsThere:
 def _judge_log(named: str, kind: type[NotMade], what: str) -> None:
     """Whether a book may get a path at which none is: work there belongs to another one.
 
-    What keeps a book from being opened there keeps it from being made too.
+    What keeps a book from being opened there keeps it from being made too, and a name by which what
+    belongs to another one is looked for.
     """
-    log = log_path(named)
+    log, path = log_path(named), real_path(named)
+    for ending in filter(path.endswith, _BESIDE):
+        raise kind(
+            f"“{named}” is the name of a file that belongs to the book"
+            f" “{path.removesuffix(ending)}”. Take another path for the {what}."
+        )
     if not is_log(log):
         raise cannot_open(BookFile(named), Why.NO_LOG)
     if has_journal(named):

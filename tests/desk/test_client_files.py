@@ -1370,6 +1370,21 @@ def test_no_empty_file_becomes_a_book_through_a_link_of_another_user(
     braildesk.new_book(empty)
 
 
+@pytest.mark.parametrize("ending", ["-wal", "-shm", "-journal"])
+def test_no_book_gets_a_name_by_which_what_belongs_to_another_is_looked_for(
+    book: Path, ending: str
+) -> None:
+    beside = Path(f"{book}-other{ending}")
+    said = f"“{beside}” is the name of a file that belongs to the book “{book}-other”. Take another"
+    with pytest.raises(NotCopied) as copied:
+        braildesk.copy(book, beside)
+    assert copied.value.sentence == f"{said} path for the copy."
+    with pytest.raises(NotMade) as made:
+        braildesk.new_book(beside)
+    assert made.value.sentence == f"{said} path for the new book."
+    assert not beside.exists()
+
+
 def test_a_copy_is_not_put_where_a_link_leads_nowhere(
     book: Path, tmp_path: Path
 ) -> None:
