@@ -9,6 +9,7 @@ from typing import BinaryIO
 
 from braildesk import opening
 from braildesk.opening import (
+    are_kept,
     has_journal,
     has_page,
     has_work,
@@ -43,6 +44,8 @@ def held(book: BookFile, flags: int = os.O_RDONLY) -> Iterator[BinaryIO]:
         if not is_at_path(book, file):
             # another one was put there in this moment
             raise cannot_open(book, Why.IN_USE)
+        if not are_kept(real_path(book.path), file):
+            raise cannot_open(book, Why.NO_LOCKS)
         if no_log := why_no_log(log_path(book.path)):
             raise cannot_open(book, no_log)
         if has_journal(book.path):

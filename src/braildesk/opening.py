@@ -313,6 +313,21 @@ def take_alone(file: BinaryIO) -> bool:
     return _take(file, fcntl.F_WRLCK)
 
 
+def are_kept(path: str, file: BinaryIO) -> bool:
+    """Whether the lock of a file is given to nobody else while it is held here.
+
+    Where the file may not be written, that isn't tried.
+    """
+    flags = os.O_RDWR | os.O_NOFOLLOW | os.O_NONBLOCK | os.O_CLOEXEC
+    try:
+        other = open(os.open(path, flags), "r+b", buffering=0)
+    except OSError:
+        return True
+    with other:
+        found, held = os.fstat(other.fileno()), os.fstat(file.fileno())
+        return not (os.path.samestat(found, held) and _take(other, fcntl.F_WRLCK))
+
+
 def is_used(file: BinaryIO | int) -> bool:
     """Whether a program uses the file, or reads it with a shared lock."""
     found: bytes = fcntl.fcntl(file, fcntl.F_OFD_GETLK, _lock(fcntl.F_WRLCK))

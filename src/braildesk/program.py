@@ -58,6 +58,7 @@ _NOT_ASKED = (
     Why.LOG_STAYS,
     Why.IN_USE,
     Why.NO_LOG,
+    Why.NO_LOCKS,
 )
 _CODE = re.compile(r"(?:braildesk: )?no ([0-9 ]+)")
 #: What it answers of a whole book.

@@ -1,6 +1,7 @@
 """Files of books: their tables, their copies, and what keeps them from being opened."""
 
 import errno
+import fcntl
 import os
 import shutil
 import signal
@@ -1408,6 +1409,31 @@ def test_a_new_book_is_not_made_where_a_link_leads_to_no_file(
         " path to which it leads."
     )
     assert names(tmp_path) == {book.name, "link"}
+
+
+def test_a_book_is_not_opened_where_two_programs_get_the_lock_of_one_file(
+    book: Path, tmp_path: Path, monkeypatch: pytest.MonkeyPatch
+) -> None:
+    control = fcntl.fcntl
+
+    def granted(file: Any, what: int, *more: Any) -> Any:
+        return b"" if what == fcntl.F_OFD_SETLK else control(file, what, *more)
+
+    monkeypatch.setattr(fcntl, "fcntl", granted)
+    deeds: tuple[Callable[[], object], ...] = (
+        lambda: Session(book).close(),
+        lambda: braildesk.check(book),
+        lambda: braildesk.copy(book, tmp_path / "copy"),
+    )
+    for deed in deeds:
+        with pytest.raises(CannotOpen) as caught:
+            deed()
+        assert caught.value.why is Why.NO_LOCKS
+        assert caught.value.sentence.startswith(
+            f"The file system of “{book}” lets two programs have the lock of one file, so that two"
+            " could change the book at once. Nothing was "
+        )
+    assert names(tmp_path) == {book.name}
 
 
 def test_a_book_with_two_names_is_opened_by_neither(book: Path, tmp_path: Path) -> None:

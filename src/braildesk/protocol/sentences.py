@@ -34,6 +34,7 @@ class Why(StrEnum):
     NO_LOG = "no log"
     LONG_NAME = "long name"
     JOURNAL = "journal"
+    NO_LOCKS = "no locks"
     COMPUTED = "computed"
     NO_SCHEMA = "no schema"
     TOO_LONG = "too long"
@@ -195,6 +196,8 @@ UNOPENED = MappingProxyType(
         Why.JOURNAL: "Beside {path} lies {journal}, which braildesk never makes: another program"
         " was stopped while it changed that file, or somebody put it there. {nothing}"
         " Keep both files, and go on with an earlier copy.",
+        Why.NO_LOCKS: "The file system of {path} lets two programs have the lock of one file, so that"
+        " two could change the book at once. {nothing} Move the book to another disk.",
         Why.COMPUTED: "{path} was not opened, since it isn't made as books are: one of its tables"
         " is a view or has another part that is computed, and may have no end. {nothing}"
         " Ask whoever made it for the book itself.",
