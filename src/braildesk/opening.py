@@ -36,6 +36,8 @@ _LOG, _PAGE = struct.Struct(">8xI4x8s8x"), struct.Struct(">4xI8s8x")
 _SMALLEST_PAGE = 512
 #: What the file of every book begins with.
 MAGIC = b"SQLite format 3\0"
+#: What a log begins with, by its two orders of bytes.
+LOGS = (b"\x37\x7f\x06\x82", b"\x37\x7f\x06\x83")
 #: With less room than this on its disk a book may not be kept, in bytes.
 _LITTLE = 2**20
 
@@ -205,26 +207,30 @@ def _why_denied(path: str) -> Why | None:
 
 
 def is_log(log: str) -> bool:
-    """Whether a log is one that the program opens, or isn't there: a link or a book is none."""
+    """Whether a log is one that the program opens, or isn't there: a link or another file is none."""
     try:
         found = os.lstat(log)
     except FileNotFoundError:
         return True
     if not stat.S_ISREG(found.st_mode) or found.st_nlink != 1:
         return False
-    # the program would begin a log in the place of a book of that name
-    return not (has_page(found.st_size) and _is_database(log))
+    # the program would begin a log in the place of a book, or of any other file, of that name
+    return found.st_size == 0 or _begins_as_log(log)
 
 
-def _is_database(log: str) -> bool:
-    """Whether what stands in the place of a log is a database; not if it can't be read."""
+def _begins_as_log(log: str) -> bool:
+    """Whether a file begins as a log does, or a part of one; so if it can't be read.
+
+    The first byte of a log is written last, and is 0 until then.
+    """
     # a pipe that was put there in this moment isn't waited for
     flags = os.O_RDONLY | os.O_NOFOLLOW | os.O_NONBLOCK | os.O_CLOEXEC
     try:
         with open(os.open(log, flags), "rb") as file:
-            return file.read(len(MAGIC)) == MAGIC
+            front = file.read(len(LOGS[0]))
     except OSError:
-        return False
+        return True
+    return front[:1] == b"\0" or any(each.startswith(front) for each in LOGS)
 
 
 def why_no_log(log: str) -> Why | None:

@@ -1309,6 +1309,27 @@ def test_a_log_that_is_no_file_of_its_own_is_not_read(
     assert names(tmp_path) == {book.name, log.name, "other"}
 
 
+@pytest.mark.parametrize("length", [3, 40, 4_000])
+def test_a_file_of_another_kind_in_the_place_of_a_log_stays_as_it_is(
+    book: Path, tmp_path: Path, length: int
+) -> None:
+    log, notes = Path(f"{book}-wal"), (b"My notes on the book.\n" * 200)[:length]
+    log.write_bytes(notes)
+    deeds: tuple[Callable[[], object], ...] = (
+        lambda: braildesk.check(book),
+        lambda: Session(book).close(),
+        lambda: braildesk.copy(book, tmp_path / "copy"),
+    )
+    for deed in deeds:
+        with pytest.raises(CannotOpen) as caught:
+            deed()
+        assert caught.value.why is Why.NO_LOG
+    assert log.read_bytes() == notes
+    # as after a loss of power
+    log.write_bytes(bytes(length))
+    assert braildesk.check(book) == 1
+
+
 def test_a_copy_that_replaces_a_book_through_a_link_leaves_the_link(
     book: Path, tmp_path: Path
 ) -> None:

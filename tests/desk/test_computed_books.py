@@ -342,13 +342,13 @@ def test_what_has_the_name_of_a_log_and_is_none_is_named(book: Path, kind: str) 
     elif kind == "folder":
         log.mkdir()
     else:
-        braildesk.copy(book, log)
+        shutil.copyfile(book, log)
     for attempt in attempts:
         with pytest.raises(CannotOpen) as caught:
             attempt(book)
         assert caught.value.sentence == (
             f"What stands at “{log}” is no log of its own, but a link, a folder, a pipe, a book or"
-            f" another such thing, and the newest work of “{book}” would be looked for there."
+            f" another file, and the newest work of “{book}” would be looked for there."
             " Nothing was changed. Move it away, or ask an administrator to do so where its"
             " folder doesn't let you."
         )

@@ -11,14 +11,12 @@ from dataclasses import dataclass
 from pathlib import Path
 
 from braildesk.desk import Problem
-from braildesk.opening import MAGIC
+from braildesk.opening import LOGS, MAGIC
 from braildesk.protocol.value import Value
 from braildesk.workshop import gives_lists, limit_group, mode_of, sync_names
 
 ANYONE = 0o666
 _OF_THE_SYSTEM = ("/dev/", "/proc/")
-#: The bytes at the front of a log, by its two orders of bytes.
-_LOGS = (b"\x37\x7f\x06\x82", b"\x37\x7f\x06\x83")
 #: The name of a file that is written and has its own name only then.
 _BESIDE = re.compile(r"\.scribe-[0-9a-f]{16}")
 # what is said of a name that has nothing, or a link or a pipe, since it was looked at
@@ -153,7 +151,7 @@ def _kept_permissions(name: str, folder: int, replaces: Replaces | None) -> int 
     if head.startswith(MAGIC):
         # which nobody means when pages or a table are written
         raise NoPlaceForAFile(errno.EINVAL, "a book is there, which was left as it is")
-    if head.startswith(_LOGS):
+    if head.startswith(LOGS):
         # it may have what its book lacks
         why = "the log of a book is there, which was left as it is"
         raise NoPlaceForAFile(errno.EINVAL, why)

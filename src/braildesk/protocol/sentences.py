@@ -189,7 +189,7 @@ UNOPENED = MappingProxyType(
         " the place of the book. {nothing} Keep both files; to go on with {path} as it"
         " is, move {log} away.",
         Why.NO_LOG: "What stands at {log} is no log of its own, but a link, a folder, a pipe, a book"
-        " or another such thing, and the newest work of {path} would be looked for there. {nothing}"
+        " or another file, and the newest work of {path} would be looked for there. {nothing}"
         " Move it away, or ask an administrator to do so where its folder doesn't let you.",
         Why.LONG_NAME: "The path {path} is too long for a book: those of the files beside it, which end in"
         " -wal and -journal besides, can't all be looked for. {nothing} Give the file a shorter name.",
