@@ -292,6 +292,31 @@ def test_what_is_said_below_lines_that_are_looked_at_leaves_them_the_rest() -> N
     assert drawn.cursor == (8, 0)
 
 
+def test_two_lines_show_what_is_asked_looked_at_or_said_at_the_cursor() -> None:
+    state = replace(STATE, size=Size(40, 2))
+    asked = Question("It rose. Shall it be typed further?", more="l leaves it.")
+    drawn = draw(replace(state, question=asked))
+    assert drawn.texts() == [
+        "It rose. Shall it be typed further? y is",
+        "yes, n is no. l leaves it.",
+    ]
+    assert drawn.cursor == (1, 0)
+    looked_at = replace(state, pages=Pages("All keys.", ("Up: goes up", "q: ends")))
+    closed = Pages("The book is closed.", ("It is gone.",))
+    for shown, line in (
+        (looked_at, "All keys. Lines 1 to 1 of 2."),
+        (replace(looked_at, pages=replace(closed, place=0)), "It is gone."),
+        (
+            replace(state, is_lost=True, pages=closed),
+            f"{closed.title} Lines 1 to 1 of 1.",
+        ),
+        (looked_at.saying("No more."), "No more."),
+    ):
+        drawn = draw(shown)
+        assert drawn.texts() == ["Paragraph 1, body, last kept: mark 1", line]
+        assert drawn.cursor == (1, 0)
+
+
 def test_a_long_refusal_leaves_room_for_the_book() -> None:
     drawn = draw(replace(STATE, size=Size(40, 12), message="No, never again. " * 40))
     assert len(drawn.lines) == 12

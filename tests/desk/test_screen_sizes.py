@@ -126,7 +126,7 @@ def test_few_lines_show_the_line_of_the_cursor_and_what_matters_most(
     assert of_cursor(sat)[0].startswith("!Twice")
 
 
-@pytest.mark.parametrize("lines", range(3, 8))
+@pytest.mark.parametrize("lines", range(2, 8))
 def test_few_lines_show_how_a_question_is_answered_and_the_line_of_a_list(
     moon: Path, sit: Sit, lines: int
 ) -> None:

@@ -105,7 +105,9 @@ def draw(state: State) -> Drawing:
         if area.cursor is not None:
             cursor = (len(lines) + area.cursor[0], area.cursor[1])
         lines += area.lines
-    return Drawing(tuple(lines[: state.size.lines]), cursor)
+    # where there is no room for the title, what is asked is seen
+    over = max(0, len(lines) - state.size.lines)
+    return Drawing(tuple(lines[over:]), (cursor[0] - over, cursor[1]))
 
 
 def _above(state: State, room: int) -> Area:
@@ -213,7 +215,7 @@ def _pages(state: State, pages: Pages, room: int) -> Area:
     ]
     # that of the cursor, if there is no room for what is above it
     top = max(0, found.cursor + 1 - room)
-    return Area(filled(lines[top:], room), (found.cursor - top, 0))
+    return Area(filled(lines[top:], room), (max(0, found.cursor - top), 0))
 
 
 def _bottom(state: State) -> Area:
@@ -304,7 +306,9 @@ def _below(state: State, room: int, count: int) -> list[str]:
         beside = int(state.typed is not None and state.typed.purpose.is_print)
     said = _said(state, room - beside)
     if state.pages:
-        return [*[""] * (pager.SAID - len(said)), *said]
+        # on two lines there is room for what is looked at, or for what is said
+        free = min(pager.SAID, state.size.lines - 2) - len(said)
+        return [*[""] * free, *said]
     rest = max(0, room - least - len(said))
     # one row of the marks is seen beside whatever is said
     marks = _mark_lines(state, _marks(state), min(max(1, count - 1 - len(said)), rest))
