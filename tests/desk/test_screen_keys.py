@@ -970,6 +970,10 @@ def test_a_lost_session_is_left_or_opened_again_and_nothing_else() -> None:
         asked = step(lost, key).asked
         wanted = {"q": Quit(), "enter": OpenAgain()}
         assert asked == wanted.get(key)
+    # a screen of few lines has no line of keys
+    for key in ("?", "f1", "s"):
+        said = "Enter opens the book again, and q ends. That key does nothing here."
+        assert step(lost, key).state == lost.saying(said)
 
 
 def test_the_openings_of_other_paragraphs_stay() -> None:

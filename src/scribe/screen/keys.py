@@ -67,6 +67,7 @@ _OF_GOING = "A paragraph's number, or page 6 line 9, or words to find."
 # what is said before it is done, since the book keeps it
 _OF_TABLE = "A table that the book lacks is put into it, and stays there."
 _OF_IMPORT = "The book keeps what is imported. u strikes it, and nothing takes it out."
+_OF_LOST = "Enter opens the book again, and q ends. That key does nothing here."
 _HELP = "Keys "
 # what shows keys also where ? is a letter
 _ASKS_FOR_KEYS = ("f1", "a-?")
@@ -126,7 +127,7 @@ def _looking(state: State, pages: Pages, key: str) -> State:
     if moved is not None:
         return replace(state, pages=moved)
     if state.is_lost:
-        return state
+        return state.saying(_OF_LOST)
     target = pager.target(pages, state.size) if key == "enter" else None
     if target is not None:
         return at_target(state, target)
