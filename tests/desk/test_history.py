@@ -60,9 +60,11 @@ def test_one_paragraph_or_one_proofreader_is_shown_alone(men: Path) -> None:
 
 
 def test_where_nothing_was_corrected_that_is_said(men: Path) -> None:
-    assert history(men, "2") == Ran(0, "", "Nothing was corrected yet.\n")
+    assert history(men, "2") == Ran(
+        0, "", "Nothing was corrected in paragraph 2 yet.\n"
+    )
     assert history(men, "2", "--by", "bob").said == (
-        "There is no correction by “bob”, nor by anybody with a name.\n"
+        "There is no correction by “bob” in paragraph 2, nor by anybody with a name.\n"
     )
     assert history(men, "4") == Ran(
         2, "", "There is no paragraph 4: the book has the paragraphs 1 to 3.\n"
@@ -85,7 +87,7 @@ def test_a_talk_tells_the_history_by_the_same_word(men: Path) -> None:
         *history(men, "--width", "80").shown.splitlines(),
         *history(men, "1", "--width", "80").shown.splitlines(),
     ]
-    assert ran.said == "Nothing was corrected yet.\n"
+    assert ran.said == "Nothing was corrected in paragraph 2 yet.\n"
 
 
 EDIT = st.one_of(

@@ -81,7 +81,10 @@ def test_queries_are_answered_in_words(talk: Prompted) -> None:
         "  characters:",
         "The [moon] is far away.",
     ]
-    assert talk.type("history 2") == ["Nothing was corrected yet."]
+    assert talk.type("history 2") == [
+        "Nothing was corrected in paragraph 2",
+        "yet.",
+    ]
     assert talk.type("version") == ["The book is at version 7."]
     assert talk.type("list") == [
         "Paragraph 1, body, 21 characters:",

@@ -304,14 +304,18 @@ def _in_its_print(step: Step, head: str, width: int) -> list[str]:
     return in_its_line(head, text, start, start + len(step.came), width)
 
 
-def nothing_found(by: str | None, names: Iterable[str]) -> str:
-    """What is said if a history has nothing to show."""
+def nothing_found(
+    by: str | None, names: Iterable[str], paragraph: int | None = None
+) -> str:
+    """What is said if a history has nothing to show, be it of one paragraph or of all that it has."""
     known = sorted({*names})
+    where = "" if paragraph is None else f" in paragraph {paragraph}"
     if by is None:
-        return "Nothing was corrected yet."
+        return f"Nothing was corrected{where} yet."
+    none = f"There is no correction by {quoted(by)}{where}"
     if not known:
-        return f"There is no correction by {quoted(by)}, nor by anybody with a name."
-    return f"There is no correction by {quoted(by)}. There are some by {', '.join(map(visible, known))}."
+        return f"{none}, nor by anybody with a name."
+    return f"{none}. There are some by {', '.join(map(visible, known))}."
 
 
 def _entry(step: Step) -> str:

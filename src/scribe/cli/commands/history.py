@@ -47,7 +47,7 @@ def answer(session: Session, arguments: Namespace, console: Console) -> None:
         console.show(*lines)
     if not wanted:
         names = (step.entry.who for step in found if step.entry.who is not None)
-        console.say(nothing_found(by, names))
+        console.say(nothing_found(by, names, number))
 
 
 COMMAND = BookCommand("history", EXAMPLE, add_words, lambda: answer, MORE, looks=True)
