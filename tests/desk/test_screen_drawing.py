@@ -317,6 +317,16 @@ def test_two_lines_show_what_is_asked_looked_at_or_said_at_the_cursor() -> None:
         assert drawn.cursor == (1, 0)
 
 
+def test_two_lines_show_what_is_typed_until_a_key_has_something_said() -> None:
+    state = replace(STATE, size=Size(40, 2), typed=Field(Purpose.EDIT, "The ☾", 5))
+    fault = "“☾” has no cells by the table en."
+    state = replace(state, preview=Preview("The ☾", fault=fault))
+    assert (draw(state).texts()[1], draw(state).cursor) == ("The ☾", (1, 5))
+    # else what was refused looks like what was kept
+    refused = draw(state.saying("Nothing was changed."))
+    assert (refused.texts()[1], refused.cursor) == ("Nothing was changed.", (1, 0))
+
+
 def test_a_long_refusal_leaves_room_for_the_book() -> None:
     drawn = draw(replace(STATE, size=Size(40, 12), message="No, never again. " * 40))
     assert len(drawn.lines) == 12

@@ -303,7 +303,9 @@ def _below(state: State, room: int, count: int) -> list[str]:
     if state.size.lines < _FEW_LINES:
         # what is said covers the print, but not while it is typed
         least, count = 1, min(count, room - 1)
-        beside = int(state.typed is not None and state.typed.purpose.is_print)
+        is_print = state.typed is not None and state.typed.purpose.is_print
+        # on two lines what a key had said covers that too
+        beside = int(is_print and not (state.message and room < 2))
     said = _said(state, room - beside)
     if state.pages:
         # on two lines there is room for what is looked at, or for what is said
