@@ -69,8 +69,7 @@ def test_what_is_refused_stays_and_is_listed_with_the_reason(moons: Path) -> Non
     assert ran.status == 2
     assert ran.shown.count("Before: ") == 3
     assert ran.said == (
-        "Refused in paragraph 3, character 4: Paragraph 3 is struck. Nothing was changed."
-        " Restore it first.\n"
+        "Refused in paragraph 3, character 4: Paragraph 3 is struck. Restore it first.\n"
         "“mooon” was replaced by “moon” in 3 places of 2 paragraphs.\n"
         "1 place was refused and stays as before.\n"
         "The book is at version 8.\n"

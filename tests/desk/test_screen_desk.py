@@ -153,6 +153,7 @@ def test_paragraphs_are_typed_and_pasted_up_to_one_that_is_refused(
     sat.press("y")
     assert sat.state.typed and sat.state.typed.text == "Těo."
     assert sat.state.message.startswith("1 typed. The table en has no cells for “ě”")
+    assert "Nothing was added" not in sat.state.message
     assert sat.state.message.endswith(
         " Once nothing is typed any more, U brings back the line after this one."
     )

@@ -286,6 +286,7 @@ def test_what_is_refused_midway_is_said_and_the_rest_is_taken_back_later(
     sat.press("y", "escape", "u", "y")
     sat.state = sat.desk.away(sat.state, print)
     assert sat.state.message.startswith("1 of 3 done. ")
+    assert "Nothing was changed" not in sat.state.message
     assert [each.struck for each in sat.state.book[1:4]] == [False, False, True]
     sat.press("u", "y")
     sat.state = sat.desk.away(sat.state, print)

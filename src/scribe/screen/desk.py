@@ -756,7 +756,7 @@ class Desk:
         except Lost as lost:
             return self._after_loss(so_far(state, done), lost)
         except Refused as refused:
-            said = f"{done:,} of {count:,} done. {refused.sentence}"
+            said = f"{done:,} of {count:,} done. {refused.reason}"
         except Interrupted:
             said = f"{done:,} of {count:,} done."
         book = self._session.paragraphs()
@@ -965,7 +965,7 @@ class Desk:
                 interrupted.state = state
                 raise
             left = state.question.lines if state.question else ()
-            said = f"{len(lines) - len(left)} typed. {interrupted.cause.sentence}"
+            said = f"{len(lines) - len(left)} typed. {interrupted.cause.reason}"
             return self._refused_among(state.saying(said), left)
         state = replace(state, typed=None, preview=None)
         return done_by_one_key(

@@ -70,7 +70,7 @@ class Count:
             place = each.proposal
             yield (
                 f"Refused in paragraph {place.paragraph}, character"
-                f" {place.place.start + 1}: {each.refused.sentence}"
+                f" {place.place.start + 1}: {each.refused.reason}"
             )
 
     def totals(self, version: int) -> Iterator[str]:
