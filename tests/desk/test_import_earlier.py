@@ -20,7 +20,7 @@ from braildesk.protocol.requests import Command
 from scribe.cli import run_words
 from scribe.words.console import Console
 from sitting import Sat, Sit
-from stand_in import KEPT, KILL_BOTH, KILL_PROGRAM, READ
+from stand_in import KEPT, KILL_BOTH, KILL_PROGRAM, READ, REPLY
 from terminal import standing_in
 from test_import import TEXT, prints, version
 from tool import Ran, scribe
@@ -220,6 +220,19 @@ def test_an_import_that_was_cut_short_is_done_anew_where_that_is_asked_for(
     assert again(killed, "--lines", "--again").status == 0
     assert prints(killed) == ["front", *LINES[:5], "end", *LINES]
     assert ran("show", killed).said == ""
+
+
+def test_an_import_of_which_a_part_was_typed_does_not_say_that_nothing_was_added(
+    killed: Path, monkeypatch: pytest.MonkeyPatch
+) -> None:
+    with monkeypatch.context() as patched:
+        for name, value in standing_in(3, READ, REPLY, "no", "90").items():
+            patched.setenv(name, value)
+        ran = again(killed, "--continue")
+    assert (ran.status, len(prints(killed))) == (2, 9)
+    assert ran.said.startswith(
+        "There was no memory for this. Close other programs, and ask again.\n"
+    )
 
 
 def test_an_import_done_anew_of_which_nothing_was_typed_leaves_the_earlier_one(

@@ -86,6 +86,7 @@ def test_of_lines_that_are_refused_none_is_lost(
     _paste(desk, "One.\n#\nTwo.\nThree.")
     assert _prints(desk)[:3] == ["The Moon", "One.", "The mon is far away."]
     assert desk.window.message.text.startswith("1 typed. The table en has no cells")
+    assert "Nothing was added" not in desk.window.message.text
     assert desk.window.message.text.endswith(
         "The line stays typed. What comes after it was given up. Ctrl+B brings it back."
     )

@@ -246,7 +246,7 @@ class Desk:
             self.refuse(refused.sentence)
         except NotAll as part:
             cause = part.cause
-            why = cause.sentence if isinstance(cause, Refused) else "Stopped."
+            why = cause.reason if isinstance(cause, Refused) else "Stopped."
             self.show(self.asked(self.book.contents), None)
             self.refuse(f"{part.done:,} done. {why}")
 

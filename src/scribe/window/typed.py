@@ -311,7 +311,7 @@ class Typed:
         desk.new = None
         desk.show(desk.asked(desk.book.contents), left.paragraph)
         if isinstance(cause, Refused) and not desk.is_ending:
-            return f"{cause.sentence} {self._first_stays(left)}"
+            return f"{cause.reason} {self._first_stays(left)}"
         if not desk.is_ending:
             desk.put_by(left)
         why = getattr(cause, "sentence", "Stopped.")

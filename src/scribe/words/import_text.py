@@ -581,7 +581,7 @@ def _cut_short(cut: CutShort) -> tuple[str, Status]:
     if isinstance(cause, KeyboardInterrupt):
         return stopped_by(cause), Status.FAILED
     if isinstance(cause, Refused):
-        return cause.sentence, Status.REFUSED
+        return cause.reason, Status.REFUSED
     if isinstance(cause, Lost) and not isinstance(cause, Displaced):
         # the book is looked at again, so that no more than the cause is to be said
         return cause.cause, Status.FAILED
