@@ -1,7 +1,12 @@
 """Keys that are pressed while the window waits: each does after it what it is for, and no text is lost."""
 
+import ctypes
 import os
 import signal
+import subprocess
+import sys
+import time
+from collections.abc import Iterator, Sequence
 from pathlib import Path
 
 import pytest
@@ -17,7 +22,59 @@ from scribe.words.console import WAITING
 
 from conftest import Open, prints, wait
 from reader import Reader
+from test_choosing import asked
 from test_kept import session_of
+
+# a screen reader, as it hears of each key before a window does, that has other work at each of them
+_LATE = """
+import time
+
+import gi
+
+gi.require_version("Atspi", "2.0")
+from gi.repository import Atspi
+
+
+def heard(event, *_):
+    time.sleep(0.08)
+    return False
+
+
+parts = Atspi.EventListener.new(lambda event, *_: None)
+parts.register("object:state-changed:focused")
+keys = Atspi.DeviceListener.new(heard)
+how = Atspi.KeyListenerSyncType.SYNCHRONOUS | Atspi.KeyListenerSyncType.CANCONSUME
+Atspi.register_keystroke_listener(keys, None, 0, 3, how)
+print("listens", flush=True)
+Atspi.event_main()
+"""
+# as fast as letters are typed
+_PACE_SECONDS = 0.03
+_RETURN = 0xFF0D
+
+
+def _press_at_once(keys: Sequence[int]) -> None:
+    """Presses keys by the X server itself: those of the bus wait for who listens to keys."""
+    x, test = ctypes.CDLL("libX11.so.6"), ctypes.CDLL("libXtst.so.6")
+    x.XOpenDisplay.restype = ctypes.c_void_p
+    display = ctypes.c_void_p(x.XOpenDisplay(None))
+    for key in keys:
+        code = x.XKeysymToKeycode(display, ctypes.c_ulong(key))
+        for is_down in (True, False):
+            test.XTestFakeKeyEvent(display, code, is_down, ctypes.c_ulong(0))
+        x.XFlush(display)
+        time.sleep(_PACE_SECONDS)
+    x.XCloseDisplay(display)
+
+
+@pytest.fixture
+def late() -> Iterator[None]:
+    """A screen reader that answers late."""
+    listener = subprocess.Popen([sys.executable, "-c", _LATE], stdout=subprocess.PIPE)
+    assert listener.stdout is not None and listener.stdout.readline() == b"listens\n"
+    yield
+    listener.kill()
+    listener.communicate()
 
 
 def begun(window: Reader) -> int:
@@ -99,6 +156,28 @@ def test_keys_that_are_pressed_while_the_window_waits_are_obeyed_once_in_order(
     assert drafts.given_up() == ()
     wanted = ["It rose.", "It stood.", "It set. ", "It came."]
     assert prints_after(window, moon)[1:5] == wanted
+
+
+def test_letters_are_held_in_order_where_a_screen_reader_hears_of_them_late(
+    late: None, moon: Path, at: Open
+) -> None:
+    window = asked(at)
+    window.press("Return")
+    dialog = window.dialog("Open a book")
+    window.insert_in(window.first("text", dialog), str(moon))
+    window.press("Return")
+    window.no_dialog()
+    window.opened().press("Ctrl+Return")
+    window.focus("text", "Print")
+    window.insert("Print", "It rose.")
+    window.reads("Print", "It rose.")
+    program = session_of(window)
+    os.kill(program, signal.SIGSTOP)
+    text = "it stood and set"
+    _press_at_once([_RETURN, *map(ord, text)])
+    await_kept(window, moon, text)
+    os.kill(program, signal.SIGCONT)
+    window.reads("Print", text)
 
 
 @pytest.mark.parametrize("number", [signal.SIGTERM, signal.SIGKILL])

@@ -30,6 +30,7 @@ from scribe.window.choosing import chosen_book
 from scribe.window.contrast import Contrast
 from scribe.window.desk import Desk
 from scribe.window.dialogs import choice
+from scribe.window.held import Held
 from scribe.window.window import title_of
 from scribe.words.status import Interrupted
 
@@ -81,7 +82,9 @@ class Application:
         self._contrast.follow()
         self._fault: BaseException | None = None
         self._ended_by: signal.Signals | None = None
-        self._desk = Desk(path or _chosen(), by, wait, page_size)
+        # a screen reader listens from the first question on, and hears of keys before they are held
+        held = Held()
+        self._desk = Desk(path or _chosen(), by, wait, page_size, held)
         actions = Actions(self._desk)
         self._desk.acts = actions.by_name
         self._offer = actions.offer

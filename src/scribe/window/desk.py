@@ -91,12 +91,17 @@ class Desk:
     """A book that is open in a window."""
 
     def __init__(
-        self, path: Path, by: str | None, wait: float, page_size: PageSize
+        self,
+        path: Path,
+        by: str | None,
+        wait: float,
+        page_size: PageSize,
+        held: Held | None = None,
     ) -> None:
         self.path = path
         self.page_size = page_size
         #: The threads of the session, of the texts that wait, and of what is translated ahead.
-        self.held = Held()
+        self.held = held or Held()
         self.work, self.aside, self.ahead = (Worker(self.held) for _ in range(3))
         self.book = OpenBook(path, by, wait, self._look_at_end)
         self.drafts = Drafts(path)
