@@ -17,6 +17,7 @@ from PyQt6.QtWidgets import QApplication, QDialog
 from braildesk import Session
 from braildesk.desk.drafts import Drafts
 
+from scribe.window.desk import Desk
 from scribe.window.held import Held
 from scribe.words.console import WAITING
 
@@ -263,6 +264,19 @@ def test_what_is_pressed_after_the_key_that_closes_does_nothing_and_its_text_is_
     again.says(
         "What came while braildesk didn't answer is set aside: “It set.”. Ctrl+B brings it back."
     )
+
+
+def test_what_is_pressed_before_the_window_closes_is_held(
+    application: QApplication, desk: Desk
+) -> None:
+    desk.window.show()
+    handle, none = desk.window.windowHandle(), Qt.KeyboardModifier.NoModifier
+    desk.act("leave")
+    key = QKeyEvent(QEvent.Type.KeyPress, Qt.Key.Key_S, none, "s")
+    QCoreApplication.sendEvent(handle, key)
+    assert desk.held.text == "s"
+    assert wait(application, 60, lambda: not desk.window.isVisible())
+    assert not desk.chosen.struck
 
 
 class Pressed(QWindow):

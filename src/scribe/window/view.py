@@ -1,5 +1,7 @@
 """What is seen of the book at work, in which form, and what is copied of it."""
 
+from contextlib import ExitStack
+
 from PyQt6.QtCore import QTimer
 from PyQt6.QtWidgets import QApplication
 
@@ -139,9 +141,12 @@ class View:
         desk.say(f"The book is open again, at version {version:,}. {more}".rstrip())
 
     def leave(self) -> None:
-        """Ends the work, once this action is done."""
+        """Ends the work, once this action is done. What is pressed meanwhile does nothing more."""
+        until_then = ExitStack()
+        until_then.enter_context(self.desk.held.holding())
 
         def close() -> None:
+            until_then.close()
             self.desk.window.close()
 
         # once no action is going on any more
