@@ -179,6 +179,18 @@ class Reader:
         field = self.part("text", name)
         self._same(f"the caret of {name}", field.get_caret_offset, place)
 
+    def selects(self, name: str, text: str) -> None:
+        """Waits until a text is selected in a field."""
+        self._same(f"what {name} selects", lambda: self.selected(name), text)
+
+    def selected(self, name: str) -> str:
+        """What is selected in a field."""
+        field = self.part("text", name)
+        if not Atspi.Text.get_n_selections(field):
+            return ""
+        its = Atspi.Text.get_selection(field, 0)
+        return str(Atspi.Text.get_text(field, its.start_offset, its.end_offset))
+
     def rows(self) -> int:
         """How many paragraphs the table has."""
         return int(Atspi.Table.get_n_rows(self.part("table", "Paragraphs")))

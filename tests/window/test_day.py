@@ -219,3 +219,24 @@ def test_a_book_that_is_gone_is_saved_also_once_scribe_was_taken_away(
     window.until("the new file", saved.exists)
     with Session(saved, timeout=120) as session:
         assert session.print_of(2) == "The moon is far away."
+
+
+def test_what_comes_into_the_message_while_it_has_the_focus_is_selected_there(
+    moon: Path, at: Open
+) -> None:
+    window = at(moon)
+    first = "Paragraph 1 is the first of the book."
+    window.press("Alt+Up")
+    window.focus("text", "Message")
+    window.reads("Message", first)
+    assert window.selected("Message") == ""
+    # a screen reader reads what is selected, and no other change where the focus is
+    for keys, said in (
+        ("Alt+Up", f"Again: {first}"),
+        ("Alt+Up", first),
+        ("Ctrl+d", "Kept: paragraph 1 struck."),
+    ):
+        window.press(keys)
+        window.selects("Message", said)
+    window.press("Escape")
+    window.focus("table", "Paragraphs")

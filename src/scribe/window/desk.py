@@ -271,8 +271,15 @@ class Desk:
             self.say(self._said_before)
 
     def say(self, sentence: str) -> None:
-        """Has something stand in the message."""
+        """Has something stand in the message, where it is heard if the message has the focus."""
         self.window.tell(visible(sentence))
+        if self.window.focusWidget() is self.window.message:
+            self._have_read()
+
+    def _have_read(self) -> None:
+        """Has the message be read anew, of which a screen reader reads only what is selected."""
+        message = self.window.message
+        message.select(Span(0, len(message.text)))
 
     def _say_besides(self, sentence: str) -> None:
         """Says something after what was refused, if that is being read."""
@@ -293,8 +300,11 @@ class Desk:
         self._is_refused = True
         # a screen reader that hears of the text or the caret first says nothing of the message
         message.setFocus()
-        self.say(sentence)
-        message.put_caret(0)
+        self.window.tell(visible(sentence))
+        if focused is message:
+            self._have_read()
+        else:
+            message.put_caret(0)
 
     def go_to(self, field: QWidget) -> None:
         """Gives a part of the window the focus; Escape goes back."""
