@@ -240,3 +240,27 @@ def test_what_comes_into_the_message_while_it_has_the_focus_is_selected_there(
         window.selects("Message", said)
     window.press("Escape")
     window.focus("table", "Paragraphs")
+
+
+def test_escape_goes_back_also_where_the_message_was_gone_to_twice(
+    moon: Path, at: Open
+) -> None:
+    window = at(moon)
+    window.press("F2")
+    window.focus("text", "Print")
+    window.press("Alt+Up")
+    window.focus("text", "Message")
+    refused = "Paragraph 1 is the first of the book."
+    window.reads("Message", refused)
+    window.press("F6")
+    window.selects("Message", refused)
+    window.press("Escape")
+    window.focus("text", "Print")
+    window.press("Alt+Up")
+    window.focus("text", "Message")
+    window.press("F6")
+    window.selects("Message", f"Again: {refused}")
+    # what is typed by hands that don't know yet of a refusal goes on in the print also then
+    window.type("A ")
+    window.reads("Print", "A The Moon")
+    window.focus("text", "Print")

@@ -307,9 +307,13 @@ class Desk:
             message.put_caret(0)
 
     def go_to(self, field: QWidget) -> None:
-        """Gives a part of the window the focus; Escape goes back."""
-        self._came_from, self._is_refused = self.window.focusWidget(), False
-        field.setFocus()
+        """Gives a part of the window the focus; Escape goes back. The message is read again there."""
+        focused = self.window.focusWidget()
+        if focused is not field:
+            self._came_from, self._is_refused = focused, False
+            field.setFocus()
+        elif field is self.window.message:
+            self._have_read()
 
     def go_back(self) -> None:
         """Gives the focus back to what had it before the message."""
