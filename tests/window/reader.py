@@ -5,6 +5,7 @@ import subprocess
 import sys
 import time
 from collections.abc import Callable, Iterator, Sequence
+from contextlib import contextmanager
 from pathlib import Path
 from typing import Any, TypeVar
 
@@ -41,6 +42,10 @@ PATIENCE_SECONDS = float(os.environ.get("PATIENCE", "120"))
 _PACE_SECONDS = 0.02
 # the roles of parts that a window has from its front to its end, by names that stay
 _LASTING = ("text", "table")
+
+#: What is told on the bus of the part that takes the focus.
+FOCUS = "object:state-changed:focused"
+_TOLD = (FOCUS, "object:text-caret-moved", "object:text-selection-changed")
 
 #: States of parts.
 EDITABLE, FOCUSABLE = Atspi.StateType.EDITABLE, Atspi.StateType.FOCUSABLE
@@ -351,6 +356,24 @@ def text_of(part: Part) -> str:
     if part.get_text_iface() is None:
         return ""
     return str(Atspi.Text.get_text(part, 0, Atspi.Text.get_character_count(part)))
+
+
+@contextmanager
+def hearing() -> Iterator[list[tuple[str, str]]]:
+    """What is told on the bus of parts with the focus and of texts, in order, each with the part's name."""
+    found: list[tuple[str, str]] = []
+
+    def take(event: Part, *_: object) -> None:
+        # that a part has the focus no more is told too
+        if event.type != FOCUS or event.detail1:
+            found.append((event.type, event.source.get_name()))
+
+    listener = Atspi.EventListener.new(take)
+    for kind in _TOLD:
+        listener.register(kind)
+    yield found
+    for kind in _TOLD:
+        listener.deregister(kind)
 
 
 def _generate(code: int, kind: Part) -> None:

@@ -181,7 +181,7 @@ def _at_a_table(moon: Path, at: Open, queue: Path) -> tuple[Reader, int]:
     )
     there = os.open(queue, os.O_RDONLY | os.O_NONBLOCK)
     window.press("Ctrl+l")
-    window.part("combo box", "en", window.dialog("Table"))
+    window.part("list", "Table", window.dialog("Table"))
     window.press("Down", "Return")
     return window, there
 

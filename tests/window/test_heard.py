@@ -4,12 +4,23 @@
 what Orca had to say of each part is put together from the bus.
 """
 
+from collections.abc import Iterator
 from pathlib import Path
 
 import pytest
 
 from conftest import Open
-from reader import EDITABLE, FOCUSABLE, Part, Reader, all_within, has, text_of
+from reader import (
+    EDITABLE,
+    FOCUS,
+    FOCUSABLE,
+    Part,
+    Reader,
+    all_within,
+    has,
+    hearing,
+    text_of,
+)
 from steps import STEPS
 
 FIXTURE = Path(__file__).with_name("orca.txt")
@@ -115,3 +126,26 @@ def test_a_new_paragraph_is_said_to_be_one(window: Reader) -> None:
 def test_nothing_that_takes_the_focus_is_without_a_name(window: Reader) -> None:
     parts = (each for each in all_within(window.top) if has(each, FOCUSABLE))
     assert [each.get_role_name() for each in parts if not each.get_name()] == []
+
+
+@pytest.fixture
+def heard() -> Iterator[list[tuple[str, str]]]:
+    """What is told of the focus, of carets and of what is selected, each with the name of its part."""
+    with hearing() as found:
+        yield found
+
+
+def test_of_names_the_chosen_one_is_told_and_each_that_is_chosen_after_it(
+    window: Reader, heard: list[tuple[str, str]]
+) -> None:
+    window.press("Ctrl+l")
+    dialog = window.dialog("Table")
+    window.part("label", "The table of paragraph 1:", dialog)
+    window.part("list", "Table", dialog)
+    window.until("the focus on en", lambda: (FOCUS, "en") in heard)
+    for key, name in (("Down", "ueb"), ("Up", "en")):
+        heard.clear()
+        window.press(key)
+        window.until(f"the focus on {name}", lambda: (FOCUS, name) in heard)
+    window.press("Escape")
+    window.no_dialog()

@@ -8,10 +8,9 @@ from pathlib import Path
 from typing import TypeVar
 
 from PyQt6.QtCore import QSize, Qt, QTimer
-from PyQt6.QtGui import QFont, QKeyEvent
+from PyQt6.QtGui import QFocusEvent, QFont, QKeyEvent
 from PyQt6.QtWidgets import (
     QCheckBox,
-    QComboBox,
     QDialog,
     QDialogButtonBox,
     QFileDialog,
@@ -19,6 +18,7 @@ from PyQt6.QtWidgets import (
     QInputDialog,
     QLabel,
     QLineEdit,
+    QListWidget,
     QMessageBox,
     QPushButton,
     QVBoxLayout,
@@ -80,9 +80,6 @@ def _fit(dialog: QDialog, width: int = 0, height: int = 0) -> None:
         # a narrower one is made wide enough by Qt, for which it may not be said to be
         if least > min(room.width() // 2, _WIDTH):
             label.setMinimumWidth(least)
-    for names in _within(dialog, QComboBox):
-        policy = QComboBox.SizeAdjustPolicy.AdjustToMinimumContentsLengthWithIcon
-        names.setSizeAdjustPolicy(policy)
     for buttons in _within(dialog, QDialogButtonBox):
         if buttons.sizeHint().width() > room.width():
             buttons.setOrientation(Qt.Orientation.Vertical)
@@ -186,15 +183,45 @@ def one_of(
     over: QWidget, title: str, asked: str, names: Sequence[str], first: int
 ) -> str | None:
     """Asks for one of several names; none where it is given up."""
-    dialog = QInputDialog(over)
+    dialog, found = QDialog(over), _Names(title, names, first)
     dialog.setWindowTitle(title)
-    dialog.setLabelText(_whole(asked))
-    dialog.setComboBoxItems(names)
-    dialog.setTextValue(names[first])
+    found.itemDoubleClicked.connect(dialog.accept)
+    column = QVBoxLayout(dialog)
+    for part in (QLabel(asked), found, _ok_or_cancel(dialog)):
+        column.addWidget(part)
     longest = max(map(dialog.fontMetrics().horizontalAdvance, (asked, *names)))
     _fit(dialog, longest + _BESIDE)
     with _back_to(over, dialog):
-        return dialog.textValue() if dialog.exec() else None
+        return names[found.currentRow()] if dialog.exec() else None
+
+
+class _Names(QListWidget):
+    """Names of which one is chosen. Of a box that shows only that one Qt says nothing as another is."""
+
+    def __init__(self, title: str, names: Sequence[str], first: int) -> None:
+        super().__init__()
+        self.setAccessibleName(title)
+        self.addItems(names)
+        self.setCurrentRow(first)
+
+    def focusInEvent(self, event: QFocusEvent | None) -> None:
+        """Tells a screen reader of the chosen name too, and not of the list alone."""
+        if event is not None:
+            super().focusInEvent(event)
+            QTimer.singleShot(0, self._tell_of_name)
+
+    def _tell_of_name(self) -> None:
+        if self.hasFocus():
+            self.currentChanged(self.currentIndex(), self.currentIndex())
+
+
+def _ok_or_cancel(dialog: QDialog) -> QDialogButtonBox:
+    """The buttons that end a dialog."""
+    kinds = QDialogButtonBox.StandardButton
+    buttons = QDialogButtonBox(kinds.Ok | kinds.Cancel)
+    buttons.accepted.connect(dialog.accept)
+    buttons.rejected.connect(dialog.reject)
+    return buttons
 
 
 def fields(
@@ -223,11 +250,7 @@ def fields(
     boxes = [QCheckBox(words) for words in checks]
     for box in boxes:
         column.addWidget(box)
-    kinds = QDialogButtonBox.StandardButton
-    buttons = QDialogButtonBox(kinds.Ok | kinds.Cancel)
-    buttons.accepted.connect(dialog.accept)
-    buttons.rejected.connect(dialog.reject)
-    column.addWidget(buttons)
+    column.addWidget(_ok_or_cancel(dialog))
     lines[0].selectAll()
     _fit(dialog, _WIDTH)
     with _back_to(over, dialog):
@@ -281,14 +304,11 @@ def folder(over: QWidget, title: str, asked: str, first: str) -> str | None:
         if found:
             line.setText(found)
 
-    kinds = QDialogButtonBox.StandardButton
-    buttons = QDialogButtonBox(kinds.Ok | kinds.Cancel)
+    buttons = _ok_or_cancel(dialog)
     browse = QPushButton("&Look for a folder…")
     browse.setAutoDefault(False)
     browse.clicked.connect(look)
     buttons.addButton(browse, QDialogButtonBox.ButtonRole.ActionRole)
-    buttons.accepted.connect(dialog.accept)
-    buttons.rejected.connect(dialog.reject)
     column = QVBoxLayout(dialog)
     for part in (label, line, buttons):
         column.addWidget(part)
