@@ -149,3 +149,15 @@ def test_of_names_the_chosen_one_is_told_and_each_that_is_chosen_after_it(
         window.until(f"the focus on {name}", lambda: (FOCUS, name) in heard)
     window.press("Escape")
     window.no_dialog()
+
+
+def test_of_an_empty_line_it_is_told_first_that_it_has_the_focus(
+    window: Reader, heard: list[tuple[str, str]]
+) -> None:
+    window.press("Ctrl+Shift+H")
+    dialog = window.dialog("Change everywhere")
+    name = "What comes in their place; nothing takes them out:"
+    window.part("text", name, dialog)
+    window.press("Tab")
+    window.until("the focus there", lambda: (FOCUS, name) in heard)
+    assert [kind for kind, of in heard if of == name][0] == FOCUS

@@ -236,7 +236,7 @@ def fields(
     dialog = QDialog(over)
     dialog.setWindowTitle(title)
     column = QVBoxLayout(dialog)
-    lines = [QLineEdit(text) for text in first]
+    lines = [_LineOfSeveral(text) for text in first]
 
     def typed() -> list[str]:
         return [_in_a_line(line.text()) for line in lines]
@@ -258,6 +258,17 @@ def fields(
     if not is_given:
         return None
     return typed(), [box.isChecked() for box in boxes]
+
+
+class _LineOfSeveral(QLineEdit):
+    """A line to which Tab goes: if it is empty, nothing of it is told before its name."""
+
+    def focusInEvent(self, event: QFocusEvent | None) -> None:
+        """Selects what there is."""
+        if event is not None and not self.text():
+            event = QFocusEvent(event.type(), Qt.FocusReason.OtherFocusReason)
+        if event is not None:
+            super().focusInEvent(event)
 
 
 def report(over: QWidget, title: str, lines: Sequence[str]) -> None:
