@@ -161,3 +161,20 @@ def test_of_an_empty_line_it_is_told_first_that_it_has_the_focus(
     window.press("Tab")
     window.until("the focus there", lambda: (FOCUS, name) in heard)
     assert [kind for kind, of in heard if of == name][0] == FOCUS
+
+
+def test_no_row_is_told_to_have_the_focus_while_another_part_has_it(
+    window: Reader, heard: list[tuple[str, str]]
+) -> None:
+    window.press("F2")
+    window.focus("text", "Print")
+    heard.clear()
+    window.press("F4")
+    window.says("Mark 1")
+    window.reads("Print", "The mon is far away.")
+    window.press("F8")
+    window.until("the focus on the braille", lambda: (FOCUS, "Braille") in heard)
+    assert [name for kind, name in heard if kind == FOCUS] == ["Braille"]
+    window.press("F5")
+    # the row is told once the table has the focus
+    window.until("the row", lambda: (FOCUS, "The mon is far away.") in heard)

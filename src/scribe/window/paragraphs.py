@@ -176,6 +176,13 @@ class Table(QTableView):
             super().focusOutEvent(event)
             frame(self, False)
 
+    def currentChanged(self, now: QModelIndex, before: QModelIndex) -> None:
+        """Tells of the row that is chosen where this has the focus; Qt says elsewhere that it has."""
+        if self.hasFocus():
+            super().currentChanged(now, before)
+        else:
+            QAbstractItemView.currentChanged(self, now, before)
+
     def _tell_of_row(self) -> None:
         if self.hasFocus():
             self.currentChanged(self.currentIndex(), self.currentIndex())
