@@ -12,7 +12,7 @@ from tempfile import TemporaryDirectory
 import pytest
 
 import braildesk
-from braildesk import Session, Typed
+from braildesk import Session, Typed, pipe
 from braildesk.protocol.requests import Type
 
 from scribe.screen.desk import Desk
@@ -209,14 +209,16 @@ def at() -> Iterator[Open]:
 
 
 @pytest.fixture
-def patient(monkeypatch: pytest.MonkeyPatch) -> None:
-    """Has scribe wait for the end of the program where it ends, also on a busy machine."""
-    monkeypatch.setattr(Terminal, "long", 1_000 * WAIT_SECONDS)
+def hurried(monkeypatch: pytest.MonkeyPatch) -> None:
+    """Has scribe at a terminal say that it waits for the program, and end without it, as it always does."""
+    monkeypatch.setattr(Terminal, "is_hurried", True)
 
 
 @pytest.fixture
-def sit() -> Iterator[Sit]:
+def sit(monkeypatch: pytest.MonkeyPatch) -> Iterator[Sit]:
     """Opens a book as the screen does, and closes it at the end."""
+    # that the program is waited for isn't said, as it is on a busy machine
+    monkeypatch.setattr(pipe, "_LONG", 1_000 * WAIT_SECONDS)
     desks: list[Desk] = []
 
     def opened(path: Path, by: str | None = None, size: Size = Size(80, 24)) -> Sat:

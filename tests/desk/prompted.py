@@ -11,8 +11,6 @@ import time
 from collections.abc import Callable
 from pathlib import Path
 
-from braildesk import pipe
-
 from scribe.words.console import WAITING
 from tool import (
     WAIT_SECONDS,
@@ -23,6 +21,7 @@ from tool import (
     environment,
     is_taken_at_start,
     scribe_in_copy,
+    wait_for_program,
 )
 
 
@@ -44,8 +43,7 @@ class Prompted:
         **more: str,
     ) -> None:
         def begin() -> None:
-            # it isn't said that the program is waited for, as it is on a busy machine
-            pipe._LONG = 1_000 * WAIT_SECONDS
+            wait_for_program()
             if before is not None:
                 before()
 
@@ -104,6 +102,16 @@ class Prompted:
         """The process of the session that scribe talks to."""
         children = Path(f"/proc/{self._child.pid}/task/{self._child.pid}/children")
         return int(children.read_text().split()[0])
+
+    def stop_program(self) -> None:
+        """Stops that process, which reads nothing more by then."""
+        program = self.program()
+        stat = Path(f"/proc/{program}/stat")
+        os.kill(program, signal.SIGSTOP)
+        end = time.monotonic() + WAIT_SECONDS
+        while stat.read_text().rpartition(")")[2].split()[0] != "T":
+            assert time.monotonic() < end, "the program isn't stopped"
+            time.sleep(0.01)
 
     def wait_for_request(self) -> None:
         """Waits until scribe waits for the answer to a request, which the program doesn't read."""

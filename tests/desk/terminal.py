@@ -16,7 +16,7 @@ import pyte  # type: ignore[import]
 from prompt_toolkit.input.posix_utils import PosixStdinReader
 
 import braildesk
-from braildesk import CannotOpen, Session, pipe
+from braildesk import CannotOpen, Session
 from braildesk.protocol.sentences import Why
 
 from scribe.screen.terminal import Screen
@@ -27,6 +27,7 @@ from tool import (
     environment,
     is_taken_at_start,
     scribe_in_copy,
+    wait_for_program,
 )
 
 # how long what is written is waited for at once
@@ -108,9 +109,9 @@ class Progress:
 class Terminal:
     """A terminal with scribe in it, and what its screen shows."""
 
-    #: After how many milliseconds scribe, in a copy of this process, says that it waits for the
-    #: program, and ends without it where it is told to end.
-    long = pipe._LONG
+    #: Whether scribe, in a copy of this process, says soon that it waits for the program, and ends
+    #: without it where it is told to end.
+    is_hurried = False
 
     def __init__(self, book: Path, columns: int, lines: int, **more: str) -> None:
         # what scribe leaves where it is killed goes with the book
@@ -368,7 +369,8 @@ class Terminal:
 
     def _begin(self) -> None:
         begin_errors()
-        pipe._LONG = self.long
+        if not self.is_hurried:
+            wait_for_program()
         self._progress.follow()
 
     def _read(self, seconds: float = 0.5) -> bool:

@@ -17,7 +17,15 @@ from braildesk import Session, SessionEnded
 
 from scribe.cli import make_parser
 from scribe.cli.commands import may_change
-from tool import ROOT, WAIT_SECONDS, Ran, environment, scribe
+from tool import (
+    ROOT,
+    WAIT_SECONDS,
+    Ran,
+    environment,
+    scribe,
+    scribe_in_copy,
+    wait_for_program,
+)
 from words import GIVEN, LOOKING, WORDS
 
 IN_THE_BOOK = "What was reported as kept is in the book, and what was asked after that may be there too."
@@ -157,13 +165,14 @@ def test_what_may_be_in_the_book_is_said_only_where_a_change_was_asked(
 @pytest.fixture
 def running(moon: Path) -> "subprocess.Popen[bytes]":
     """A run that has answered one request and waits for the next one."""
+    words = ("run", moon.name)
     process = subprocess.Popen(
-        [sys.executable, "-m", "scribe", "run", moon.name],
+        [sys.executable, "-m", "scribe", *words],
         cwd=moon.parent,
-        env=environment(),
         stdin=subprocess.PIPE,
         stdout=subprocess.PIPE,
         stderr=subprocess.PIPE,
+        preexec_fn=scribe_in_copy(words, environment(), wait_for_program),
     )
     assert process.stdin is not None and process.stdout is not None
     process.stdin.write(b"strike 1\n")

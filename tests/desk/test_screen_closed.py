@@ -15,7 +15,6 @@ from stand_in import KEPT, READ, WAIT
 from terminal import Open, Terminal, once_free, standing_in
 from tool import ROOT
 
-pytestmark = pytest.mark.usefixtures("patient")
 
 WAITS = "What was typed and isn't in the book is kept, and is offered when the book is next opened. "
 HUNG_UP, SIGNALS = "hung up", ["SIGHUP", "SIGTERM", "SIGQUIT", "SIGHUP SIGTERM"]

@@ -7,8 +7,6 @@ import sys
 import termios
 from pathlib import Path
 
-import pytest
-
 from braildesk.desk.drafts import Drafts
 from terminal import Open, once_free
 from tool import at_end, at_terminal, environment, scribe_in_copy
@@ -53,7 +51,6 @@ def test_the_book_is_opened_corrected_marked_undone_and_exported(
     assert (moon.parent / "pages" / "moon-1.brf").exists()
 
 
-@pytest.mark.usefixtures("patient")
 def test_a_killed_session_leaves_what_the_screen_said_was_kept(
     moon: Path, at: Open
 ) -> None:

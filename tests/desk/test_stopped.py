@@ -3,8 +3,6 @@
 import os
 import re
 import signal
-import subprocess
-import sys
 from io import BytesIO, StringIO
 from pathlib import Path
 
@@ -21,7 +19,7 @@ from scribe.words.status import Interrupted
 from sitting import Sit
 from stand_in import ANSWERED, HALF, KEPT, READ, SIGNAL, WAIT
 from terminal import Open, once_free, standing_in
-from tool import WAIT_SECONDS, Ran, environment
+from tool import WAIT_SECONDS, Ran, scribe, wait_for_program
 
 LINES = [f"Line number {number} of the moon." for number in range(1, 601)]
 TOLD = re.compile(
@@ -39,13 +37,7 @@ def text(book: Path) -> Path:
 
 def run(settings: dict[str, str], folder: Path, *words: str) -> Ran:
     """A run of scribe with settings of the environment."""
-    done = subprocess.run(
-        [sys.executable, "-m", "scribe", *words],
-        cwd=folder,
-        env=environment(**settings),
-        capture_output=True,
-    )
-    return Ran(done.returncode, done.stdout.decode(), done.stderr.decode())
+    return scribe(*words, folder=folder, before=wait_for_program, **settings)
 
 
 def check_told(said: str, book: Path) -> None:
@@ -261,9 +253,8 @@ def test_an_import_of_the_screen_ends_at_a_signal_and_says_what_is_in_the_book(
     queue.write_bytes(b"")
     assert terminal.ended() == -signal.Signals[name]
     by = "" if name == "SIGINT" else f" by {name}"
-    # a slow machine says before it how far the import has come, and what it waits for
-    slowly = "[0-9,]+ of [0-9,]+ .*|Waiting for braildesk to answer\\."
-    said = re.sub(f"(?m)^({slowly})\n", "", terminal.said)
+    # a slow machine says before it how far the import has come
+    said = re.sub("(?m)^[0-9,]+ of [0-9,]+ .*\n", "", terminal.said)
     assert said.startswith(f"Stopped{by}.\n")
     # in lines of the terminal's width
     said = " ".join(said.split())

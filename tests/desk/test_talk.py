@@ -668,7 +668,7 @@ def test_lines_that_were_entered_and_not_answered_come_back_too(
     talk = Prompted("talk", str(moon), folder=moon.parent, before=wait_as_usual)
     talk.type("change 1", ": ")
     talk.type("moon is", ": ")
-    os.kill(talk.program(), signal.SIGSTOP)
+    talk.stop_program()
     talk.keys("sea and the tides are\r")
     talk.wait_for_request()
     if number is not None:

@@ -17,6 +17,8 @@ from scribe.words.console import Console
 from terminal import Open, Terminal, once_free
 from tool import WAIT_SECONDS
 
+pytestmark = pytest.mark.usefixtures("hurried")
+
 WAITING = "Waiting for braildesk to answer."
 
 

@@ -19,6 +19,8 @@ from typing import Any, TextIO
 
 import pexpect  # type: ignore[import]
 
+from braildesk import pipe
+
 from scribe.cli import main
 from scribe.words import encoding
 
@@ -115,6 +117,14 @@ def scribe_in_copy(
             os._exit(status)
 
     return become
+
+
+def wait_for_program() -> None:
+    """Has this process wait for the program however long that takes, as it may on a busy machine.
+
+    Else scribe says after a second that it waits, and where it is told to end it ends without it.
+    """
+    pipe._LONG = 1_000 * WAIT_SECONDS
 
 
 def at_terminal(
