@@ -64,6 +64,26 @@ def test_what_is_said_last_is_no_wider_than_a_line(tmp_path: Path) -> None:
     assert said.split() == whole.split()
 
 
+@pytest.mark.parametrize("fault", ["MemoryError()", "KeyboardInterrupt"])
+def test_what_is_said_last_is_no_wider_than_the_words_ask(
+    tmp_path: Path, fault: str
+) -> None:
+    words = ("strike", "moon.braildesk", "1")
+    whole = faulty(fault, tmp_path, *words).said
+    said = faulty(fault, tmp_path, *words, "--width", "30", COLUMNS="60").said
+    assert max(map(len, said.splitlines())) <= 30 < len(whole)
+    assert said.split() == whole.split()
+
+
+def test_what_a_talk_says_last_is_no_wider_than_its_other_lines(
+    tmp_path: Path,
+) -> None:
+    for columns in ("", "200"):
+        words = ("talk", "moon.braildesk")
+        said = faulty("KeyboardInterrupt", tmp_path, *words, COLUMNS=columns).said
+        assert max(map(len, said.splitlines())) <= 80 < len(said)
+
+
 def test_a_fault_of_scribe_itself_is_a_sentence_with_3_and_its_details_are_kept(
     tmp_path: Path,
 ) -> None:

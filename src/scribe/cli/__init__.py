@@ -7,8 +7,15 @@ from contextlib import suppress
 
 from scribe.cli.commands import COMMANDS, command, may_change
 from scribe.cli.endings import ended, lost_besides, said_of
-from scribe.cli.parser import Parser, TextAsked, WordsRefused, as_asked, unknown_command
-from scribe.words.console import Console, InputFailed, OutputFailed
+from scribe.cli.parser import (
+    Parser,
+    TextAsked,
+    WordsRefused,
+    as_asked,
+    unknown_command,
+    width_asked,
+)
+from scribe.words.console import Console, InputFailed, OutputFailed, width_of_output
 from scribe.words.status import Status, Stop, in_sentences
 
 DESCRIPTION = """\
@@ -75,16 +82,27 @@ def run_words(words: Sequence[str], console: Console) -> Status:
 
 def main() -> int:
     """Runs the words of this process, and gives its status."""
-    return ended(_run_process, _may_change)
+    return ended(_run_process, _may_change, _width)
 
 
 def _may_change() -> bool:
     """Whether the words of this process may change a book; those that are refused do nothing."""
+    arguments = _arguments()
+    return arguments is not None and may_change(arguments)
+
+
+def _width() -> int | None:
+    """The columns of a line for the words of this process."""
+    return width_asked(_arguments() or Namespace(), width_of_output())
+
+
+def _arguments() -> Namespace | None:
+    """The words of this process as they are read; None if they are refused, or ask for a text."""
     words = sys.argv[1:]
     try:
-        return may_change(make_parser(words[:1]).parse_args(words))
+        return make_parser(words[:1]).parse_args(words)
     except (TextAsked, WordsRefused):
-        return False
+        return None
 
 
 def _run_process() -> int:

@@ -11,6 +11,7 @@ from argparse import Namespace
 from collections.abc import Callable
 from contextlib import suppress
 from dataclasses import dataclass
+from functools import partial
 from pathlib import Path
 from types import FrameType
 from typing import NoReturn
@@ -39,18 +40,23 @@ _IN_THE_BOOK = "What was reported as kept is in the book, and what was asked aft
 _NOTHING_CHANGED = "No book was changed."
 
 
-def ended(run: Callable[[], int], may_change: Callable[[], bool]) -> int:
+def ended(
+    run: Callable[[], int],
+    may_change: Callable[[], bool],
+    width: Callable[[], int | None] = width_of_output,
+) -> int:
     """What a run of the process ends with: its status, if no signal ends the process first.
 
-    Whether it may have changed a book is asked where it has to be said.
+    Whether it may have changed a book, and how wide a line is, is asked where something has to be said.
     """
+    say = partial(say_last, width=width)
     open_closed()
     try:
         _take_signals()
-        status = _status(run, may_change)
+        status = _status(run, may_change, say)
         _leave_signals()
     except KeyboardInterrupt as cause:
-        _end_by_signal(cause, may_change)
+        _end_by_signal(cause, may_change, say)
         return Status.FAILED
     return status
 
@@ -67,13 +73,17 @@ def leave(status: int) -> NoReturn:
     os._exit(status)
 
 
-def _status(run: Callable[[], int], may_change: Callable[[], bool]) -> int:
+def _status(
+    run: Callable[[], int],
+    may_change: Callable[[], bool],
+    say: Callable[[str], None],
+) -> int:
     try:
         return run()
     except OutputFailed as failed:
         said = "" if failed.reader_left else _of_output(failed, may_change)
         for sentence in filter(None, (said, *lost_besides(failed))):
-            say_last(sentence)
+            say(sentence)
     except Exception as fault:
         kept = _kept_at(fault, may_change)
         try:
@@ -81,7 +91,7 @@ def _status(run: Callable[[], int], may_change: Callable[[], bool]) -> int:
         except Exception:
             # what it needs can't be read, as if no file more may be open
             said = f"scribe stopped ({type(fault).__name__}: {fault}). {kept}"
-        say_last(said)
+        say(said)
     return Status.FAILED
 
 
@@ -194,21 +204,22 @@ def _is_replaced() -> bool:
     return False
 
 
-def say_last(sentence: str) -> None:
+def say_last(sentence: str, width: Callable[[], int | None] = width_of_output) -> None:
     """Says a sentence if standard error is there, and nothing else may be."""
+    lines = _in_lines(visible(sentence), width)
     with suppress(OSError):
-        os.write(2, _in_lines(visible(sentence)).encode(errors="backslashreplace"))
+        os.write(2, lines.encode(errors="backslashreplace"))
 
 
-def _in_lines(sentence: str) -> str:
-    """A sentence in lines of the width of the output, or as it is where even this fails."""
+def _in_lines(sentence: str, width: Callable[[], int | None]) -> str:
+    """A sentence in lines of a width, or as it is where even this fails."""
     lines = [sentence]
     with suppress(Exception):
         # imported here, since few runs end so
         from braildesk.text.wrapping import wrap
 
-        width = width_of_output()
-        lines = lines if width is None else wrap(sentence, width)
+        columns = width()
+        lines = lines if columns is None else wrap(sentence, columns)
     return "".join(f"{line}\n" for line in lines)
 
 
@@ -280,10 +291,14 @@ def _nothing(number: int, frame: FrameType | None) -> None:
     """What a signal does while scribe ends by an earlier one."""
 
 
-def _end_by_signal(cause: KeyboardInterrupt, may_change: Callable[[], bool]) -> None:
+def _end_by_signal(
+    cause: KeyboardInterrupt,
+    may_change: Callable[[], bool],
+    say: Callable[[str], None],
+) -> None:
     """Says what is so, unless it was said, and ends the process by the signal that stopped it."""
     if not (isinstance(cause, Interrupted) and cause.is_said):
-        say_last(f"{stopped_by(cause)} {_kept_at(cause, may_change)}")
+        say(f"{stopped_by(cause)} {_kept_at(cause, may_change)}")
     number = number_of(cause)
     signal.signal(number, signal.SIG_DFL)
     os.kill(os.getpid(), number)

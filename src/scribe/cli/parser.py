@@ -317,6 +317,15 @@ def width(word: str) -> int:
 
 def as_asked(console: Console, arguments: argparse.Namespace) -> Console:
     """The console with the width and the writing of cells that words ask for."""
-    width = getattr(arguments, "columns", None) or console.width
+    width = width_asked(arguments, console.width)
     cells = getattr(arguments, "cells", None) or console.cells
     return replace(console, width=width, cells=cells)
+
+
+def width_asked(arguments: argparse.Namespace, usual: int | None) -> int | None:
+    """The columns of a line that words ask for, or else the usual ones, of which some take no more."""
+    asked: int | None = getattr(arguments, "columns", None)
+    most: int | None = getattr(arguments, "most_columns", None)
+    if asked is not None or most is None:
+        return asked or usual
+    return min(most, usual or most)

@@ -2,7 +2,6 @@
 
 from argparse import ArgumentParser, Namespace
 from contextlib import AbstractContextManager, ExitStack, nullcontext
-from dataclasses import replace
 from pathlib import Path
 
 from braildesk import Lost, Refused
@@ -63,6 +62,7 @@ def add_parser(subparsers: Subparsers) -> ArgumentParser:
         help=f"no line over N columns; {USUAL_WIDTH}, or the terminal's width if that is"
         " less, where it isn't given",
     )
+    parser.set_defaults(most_columns=USUAL_WIDTH)
     return parser
 
 
@@ -71,8 +71,6 @@ def run(arguments: Namespace, console: Console) -> Status:
     with ExitStack() as opened:
         session = opened.enter_context(open_session(arguments, console))
         lines = opened.enter_context(_lines(console))
-        usual = arguments.columns or min(USUAL_WIDTH, console.columns)
-        console = replace(console, width=usual)
         conversation = Conversation(
             session,
             lines,
