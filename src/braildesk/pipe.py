@@ -175,6 +175,11 @@ class Pipe:
         errors = self._error_bytes.decode(errors="replace")
         return Ending(status, errors, self._is_given_up)
 
+    def hasten(self) -> None:
+        """Has a program that does nothing be waited for no longer than for a while: somebody stopped that."""
+        if self._until is None:
+            self._until = time.monotonic() + _PATIENCE
+
     def abandon(self) -> None:
         """Ends the input, and doesn't wait for the program, which ends by that."""
         self._writable = False

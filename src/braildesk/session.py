@@ -1,6 +1,7 @@
 """A session with a book: requests go to the program, and values come back."""
 
 import os
+import sys
 import threading
 import warnings
 from collections import deque
@@ -131,6 +132,8 @@ class Session(Asking):
         """
         if self._is_closed:
             return
+        if isinstance(sys.exception(), KeyboardInterrupt):
+            self._pipe.hasten()
         self._settle()
         # looked at while nobody else can have it: once the program has ended, anybody may replace it
         is_gone, is_foreign = not self._file.is_at_its_path, self._is_foreign

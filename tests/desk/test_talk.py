@@ -658,13 +658,15 @@ def test_a_line_that_was_broken_off_comes_back_at_the_next_talk(
     assert talk.end("quit\r").status == 0
 
 
+def wait_as_usual() -> None:
+    """Has scribe end without a program that does nothing, as it does where no test has work."""
+    pipe._LONG = 100
+
+
 @pytest.mark.parametrize("number", [signal.SIGTERM, signal.SIGQUIT, None])
 def test_lines_that_were_entered_and_not_answered_come_back_too(
     moon: Path, number: signal.Signals | None
 ) -> None:
-    def wait_as_usual() -> None:
-        pipe._LONG = 100
-
     talk = Prompted("talk", str(moon), folder=moon.parent, before=wait_as_usual)
     talk.type("change 1", ": ")
     talk.type("moon is", ": ")
@@ -681,6 +683,22 @@ def test_lines_that_were_entered_and_not_answered_come_back_too(
         *("change 1", "moon is", "sea and the tides are"),
     ]
     assert talk.end("quit\r").status == 0
+
+
+@pytest.mark.parametrize("number", [signal.SIGTERM, signal.SIGHUP])
+def test_a_talk_whose_program_does_nothing_ends_at_its_prompt_by_a_signal(
+    moon: Path, number: signal.Signals
+) -> None:
+    talk = Prompted("talk", str(moon), folder=moon.parent, before=wait_as_usual)
+    talk.stop_program()
+    talk.shown_keys("strike 1")
+    ran = talk.stop_by(number)
+    assert ran.status == -number
+    assert " ".join(ran.shown.split()).endswith(
+        f"Stopped by {number.name}. braildesk didn't answer any more, and was ended. Nothing was"
+        " changed by this session."
+    )
+    assert talk_about(moon).greeting[-1] == "strike 1"
 
 
 def test_a_line_that_was_broken_off_and_can_not_be_kept_is_said(moon: Path) -> None:
