@@ -491,8 +491,9 @@ def test_a_line_that_ctrl_z_interrupts_is_not_cut_and_goes_on_after_it(
         )
 
 
-def test_a_talk_that_is_told_to_end_while_it_is_stopped_ends_once_it_goes_on(
-    moon: Path,
+@pytest.mark.parametrize("name", ["SIGTERM", "SIGHUP"])
+def test_a_talk_that_is_told_to_end_while_it_is_stopped_ends(
+    moon: Path, name: str
 ) -> None:
     settings = environment(PS1="$ ", TERM="xterm-256color", INPUTRC="/dev/null")
     words = ["--norc", "--noprofile", "-i"]
@@ -505,9 +506,9 @@ def test_a_talk_that_is_told_to_end_while_it_is_stopped_ends_once_it_goes_on(
     shell.send("\x1a")
     shell.expect_exact("Stopped")
     shell.expect_exact("$ ")
-    # it is stopped again as it leaves the terminal, which the shell has
-    shell.sendline("kill %1; until jobs -l | grep output; do sleep 0.1; done; fg")
-    shell.expect_exact("Stopped by SIGTERM. What was reported as kept is in the book,")
+    # the shell has it go on by that, and keeps the terminal
+    shell.sendline(f"kill -{name} %1; wait -f %1")
+    shell.expect_exact(f"Stopped by {name}. What was reported as kept is in the book,")
     shell.expect_exact("$ ")
     end(shell)
     assert talk_about(moon).greeting[-1] == "type end en It is "

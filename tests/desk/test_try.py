@@ -219,8 +219,16 @@ def test_ctrl_c_gives_up_the_line_and_not_the_trial(trying: Prompted) -> None:
     assert trying.type("a")[0] == "⠁"
 
 
-def test_a_trial_that_is_told_to_end_while_it_is_stopped_ends_once_it_goes_on(
-    own: Path,
+@pytest.mark.parametrize("name", ["SIGTERM", "SIGHUP"])
+@pytest.mark.parametrize(
+    "before",
+    [
+        *("", "stty tostop; "),
+        "bg; until jobs -l | grep -q output; do sleep 0.1; done; ",
+    ],
+)
+def test_a_trial_that_is_told_to_end_while_it_is_stopped_ends(
+    own: Path, name: str, before: str
 ) -> None:
     settings = environment(PS1="$ ", TERM="xterm-256color", INPUTRC="/dev/null")
     shell = at_terminal("bash", "--norc", "--noprofile", "-i", settings=settings)
@@ -232,9 +240,9 @@ def test_a_trial_that_is_told_to_end_while_it_is_stopped_ends_once_it_goes_on(
     shell.send("\x1a")
     shell.expect_exact("Stopped")
     shell.expect_exact("$ ")
-    # it is stopped again as it leaves the terminal, which the shell has
-    shell.sendline("kill %1; until jobs -l | grep output; do sleep 0.1; done; fg")
-    shell.expect_exact("Stopped by SIGTERM. No book was changed.")
+    # the shell has it go on by that, and keeps the terminal
+    shell.sendline(f"{before}kill -{name} %1; wait -f %1")
+    shell.expect_exact(f"Stopped by {name}. No book was changed.")
     shell.expect_exact("$ ")
     end(shell)
 

@@ -211,12 +211,16 @@ class TypedLines(AbstractContextManager["TypedLines"]):
         signal.signal(signal.SIGTSTP, signal.SIG_DFL)
         # the timer would come at once with a signal that ends scribe meanwhile
         timer = signal.setitimer(signal.ITIMER_REAL, 0)
-        os.kill(os.getpid(), signal.SIGTSTP)
-        signal.setitimer(signal.ITIMER_REAL, *timer)
-        signal.signal(signal.SIGTSTP, self._stop)
-        # a terminal that was closed needs no care
-        with suppress(termios.error):
-            termios.tcsetattr(0, termios.TCSADRAIN, mode)
+        try:
+            os.kill(os.getpid(), signal.SIGTSTP)
+            # a terminal that was closed needs no care
+            with suppress(termios.error):
+                termios.tcsetattr(0, termios.TCSADRAIN, mode)
+            signal.setitimer(signal.ITIMER_REAL, *timer)
+            signal.signal(signal.SIGTSTP, self._stop)
+        except Interrupted:
+            _leave_terminal()
+            raise
         if self._prompt is not None:
             print(self._prompt + self._readline.get_line_buffer(), end="", flush=True)
 
@@ -282,6 +286,17 @@ def _read_utf8() -> None:
         os.environ["LC_ALL"] = "C.UTF-8"
         with suppress(locale.Error):
             locale.setlocale(locale.LC_CTYPE, "C.UTF-8")
+
+
+def _leave_terminal() -> None:
+    """Has nothing be done to the terminal any more if the shell has it, which would stop scribe again."""
+    # a terminal that was closed needs no care
+    with suppress(OSError):
+        if os.tcgetpgrp(0) != os.getpgrp():
+            signal.signal(signal.SIGTTOU, signal.SIG_IGN)
+            nothing = os.open(os.devnull, os.O_RDWR)
+            os.dup2(nothing, 0)
+            os.close(nothing)
 
 
 def _nothing(number: int, frame: FrameType | None) -> None:
