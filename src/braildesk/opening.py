@@ -38,6 +38,8 @@ _SMALLEST_PAGE = 512
 MAGIC = b"SQLite format 3\0"
 #: What a log begins with, by its two orders of bytes.
 LOGS = (b"\x37\x7f\x06\x82", b"\x37\x7f\x06\x83")
+#: Where the system shows what it has in things that look like files.
+_OF_SYSTEM = ("/proc/", "/sys/")
 #: With less room than this on its disk a book may not be kept, in bytes.
 _LITTLE = 2**20
 
@@ -59,7 +61,12 @@ def is_file_or_free(path: str) -> bool:
         mode = os.stat(path).st_mode
     except (OSError, ValueError):
         return True
-    return stat.S_ISREG(mode) or stat.S_ISDIR(mode)
+    return stat.S_ISDIR(mode) or _is_file(path, mode)
+
+
+def _is_file(path: str, mode: int) -> bool:
+    """Whether what has a mode is a file, and nothing of the system that may have to be waited for."""
+    return stat.S_ISREG(mode) and not os.path.realpath(path).startswith(_OF_SYSTEM)
 
 
 #: What a failure of the system says of the room on a disk.
@@ -136,7 +143,7 @@ def _why_not_regular(path: str) -> Why | None:
     mode = os.stat(path).st_mode
     if stat.S_ISDIR(mode):
         return Why.FOLDER
-    return None if stat.S_ISREG(mode) else Why.NO_FILE
+    return None if _is_file(path, mode) else Why.NO_FILE
 
 
 def _why_regular(asked: AskedOfFile) -> Why:

@@ -179,10 +179,33 @@ def test_a_client_opens_no_pipe_in_place_of_a_book_or_a_table(
             attempt()
         assert caught.value.why is Why.NO_FILE
         assert caught.value.sentence == (
-            f"“{pipe}” is a pipe, a socket or a device, and no file. It was not opened. Give"
-            " the path of a file."
+            f"“{pipe}” is a pipe, a socket, a device or a part of the system, and no file. It was not"
+            " opened. Give the path of a file."
         )
     assert stat.S_ISFIFO(pipe.lstat().st_mode)
+
+
+@pytest.mark.parametrize("path", ["/proc/version", "/proc/kmsg", "/sys/power/state"])
+def test_what_the_system_shows_as_a_file_is_not_opened(
+    path: str, book: Path, tmp_path: Path
+) -> None:
+    if not os.path.isfile(path):
+        pytest.skip(f"there is no {path} here")
+    link = tmp_path / "link"
+    link.symlink_to(path)
+    attempts: list[Callable[[], object]] = [
+        lambda: braildesk.Session(path),
+        lambda: braildesk.new_book(path),
+        lambda: braildesk.new_book(link),
+        lambda: braildesk.check(path),
+        lambda: braildesk.copy(path, tmp_path / "copied"),
+        lambda: braildesk.copy(book, path, overwrite=True),
+        lambda: braildesk.translate(path, ["a"]),
+    ]
+    for attempt in attempts:
+        with pytest.raises(CannotOpen) as caught:
+            attempt()
+        assert caught.value.why is Why.NO_FILE
 
 
 def test_a_link_to_what_is_handed_over_is_no_way_to_it(tmp_path: Path) -> None:
@@ -210,13 +233,13 @@ def test_a_link_to_what_is_handed_over_is_no_way_to_it(tmp_path: Path) -> None:
         ),
         (
             ("check-table", "pipe"),
-            "“pipe” is a pipe, a socket or a device, and no file. It was not opened. Give the"
-            " path of a file.\n",
+            "“pipe” is a pipe, a socket, a device or a part of the system, and no file. It was not"
+            " opened. Give the path of a file.\n",
         ),
         (
             ("try", "pipe"),
-            "“pipe” is a pipe, a socket or a device, and no file. It was not opened. Give the"
-            " path of a file.\n",
+            "“pipe” is a pipe, a socket, a device or a part of the system, and no file. It was not"
+            " opened. Give the path of a file.\n",
         ),
     ],
 )
@@ -262,7 +285,7 @@ def test_a_book_that_is_a_device_is_refused_and_stays_a_device(moon: Path) -> No
     for command in ("new", "show"):
         ran = scribe(command, "null", folder=moon.parent, before=in_time)
         assert ran.said.startswith(
-            "“null” is a pipe, a socket or a device, and no file."
+            "“null” is a pipe, a socket, a device or a part of the system, and no file."
         )
     assert stat.S_ISCHR(device.lstat().st_mode)
 

@@ -153,8 +153,8 @@ UNOPENED = MappingProxyType(
         Why.NO_FOLDER: "There is no folder in which {path} could be made. Check that the path is"
         " right.",
         Why.FOLDER: "{path} is a folder and no file. Give the path of a file in it.",
-        Why.NO_FILE: "{path} is a pipe, a socket or a device, and no file. It was not opened. Give"
-        " the path of a file.",
+        Why.NO_FILE: "{path} is a pipe, a socket, a device or a part of the system, and no file. It was"
+        " not opened. Give the path of a file.",
         Why.DENIED: "You aren't permitted to open {path}. {nothing} Ask who owns it"
         " for leave to read and write it and to write in its folder.",
         Why.LOG_DENIED: "You aren't permitted to read and write {log}, in which the newest work of"
