@@ -168,6 +168,16 @@ def test_a_file_that_cannot_be_written_is_said(tmp_path: Path) -> None:
     )
 
 
+def test_what_is_not_replaced_is_said_and_refused(tmp_path: Path) -> None:
+    (tmp_path / "out.utb").symlink_to("/dev/null")
+    words = ("bring", small(tmp_path), "out.utb", "--overwrite")
+    ran = scribe(*words, folder=tmp_path)
+    assert ran.status == 2
+    assert ran.said.splitlines()[-1] == (
+        "out.utb could not be written: a device, a terminal or a pipe is there."
+    )
+
+
 @pytest.mark.parametrize(
     "words",
     [

@@ -284,7 +284,7 @@ def test_where_a_volume_fails_it_is_said_which_files_are_new_and_which_older(
     (out / "moon-2.brf").mkdir()
     with pytest.raises(Stop) as failed:
         exported(moon)
-    assert failed.value.status is Status.FAILED
+    assert failed.value.status is Status.REFUSED
     assert failed.value.sentence == (
         f"Volume 2 could not be written: Is a directory. {out}/moon-2.brf is as it was."
         " Volume 1 is new. Volume 3 was not made."

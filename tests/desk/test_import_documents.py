@@ -190,7 +190,7 @@ def test_a_report_leaves_the_log_of_another_book(book: Path) -> None:
             session.version()
     log = f"{other}-wal"
     assert put(book, "--report", log) == Ran(
-        3,
+        2,
         "",
         f"The report can't be written to {log}: the log of a book is there, which was left as it"
         " is. Nothing was typed.\n",

@@ -2,6 +2,7 @@
 
 import errno
 import os
+import shutil
 import stat
 from pathlib import Path
 
@@ -236,10 +237,34 @@ def test_a_book_is_not_replaced_by_what_is_written_about_it(moon: Path) -> None:
     assert caught.value.strerror == "a book is there, which was left as it is"
     ran = scribe("proof", moon.name, moon.name, folder=moon.parent)
     assert (ran.status, ran.said) == (
-        3,
+        2,
         f"{moon.name} could not be written: a book is there, which was left as it is.\n",
     )
     assert moon.read_bytes() == before
+
+
+@pytest.mark.parametrize("kind", ["book", "device", "folder"])
+def test_what_is_not_replaced_is_refused_by_one_status(moon: Path, kind: str) -> None:
+    folder = moon.parent
+    (folder / "pages").mkdir()
+    (folder / "text.txt").write_text("The sun\n")
+    for place in (folder / "place", folder / "pages" / "moon-1.brf"):
+        match kind:
+            case "book":
+                shutil.copyfile(moon, place)
+            case "device":
+                place.symlink_to("/dev/null")
+            case "folder":
+                place.mkdir()
+    for words in (
+        ("proof", moon.name, "place", "--overwrite"),
+        ("import", moon.name, "text.txt", "--report", "place"),
+        ("export", moon.name, "pages"),
+        ("copy", moon.name, "place"),
+        ("new", "place"),
+    ):
+        ran = scribe(*words, folder=folder)
+        assert (words[0], ran.status) == (words[0], 2), ran
 
 
 def test_a_log_is_not_replaced_since_it_may_have_what_its_book_lacks(

@@ -66,7 +66,14 @@ from braildesk.workshop import MayNotLast
 from scribe.words.console import Console
 from scribe.words.drafts import not_kept
 from scribe.words.paragraph import no_paragraph, quoted
-from scribe.words.status import Interrupted, Status, Stop, may_not_last, stopped_by
+from scribe.words.status import (
+    Interrupted,
+    Status,
+    Stop,
+    may_not_last,
+    status_of,
+    stopped_by,
+)
 
 if TYPE_CHECKING:
     from braildesk.desk.text_faults import Barred, Lacking, TextFault, TooLongPassage
@@ -211,7 +218,7 @@ def _write_report(job: Import, report: Path, lines: Sequence[str]) -> None:
     except OSError as cause:
         raise Stop(
             f"The report can't be written to {report}: {cause.strerror}. Nothing was typed.",
-            Status.FAILED,
+            status_of(cause),
         ) from cause
 
 

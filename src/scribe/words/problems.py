@@ -22,7 +22,7 @@ from scribe.words.changes import no_place
 from scribe.words.drafts import not_kept
 from scribe.words.import_text import not_imported
 from scribe.words.paragraph import no_mark, no_paragraph
-from scribe.words.status import Status, Stop, is_of_disk
+from scribe.words.status import Status, Stop, is_of_disk, status_of
 from scribe.words.volumes import too_long
 
 
@@ -64,7 +64,7 @@ def as_stop(problem: Problem) -> Stop:
         case WhichVolume():
             return Stop(export.which_volume(problem))
         case NotWritten():
-            return Stop(export.not_written(problem), Status.FAILED)
+            return Stop(export.not_written(problem), status_of(problem.cause))
     raise TypeError(f"no sentence for {problem!r}")
 
 

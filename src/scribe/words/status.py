@@ -129,6 +129,14 @@ def is_of_disk(failure: Exception) -> bool:
     return isinstance(failure, OSError) and failure.errno in _OF_DISK
 
 
+def status_of(failure: OSError) -> Status:
+    """The status if a file can't be written: what stands in its place may be why."""
+    from braildesk.desk.whole_file import NoPlaceForAFile
+
+    is_taken = isinstance(failure, (NoPlaceForAFile, IsADirectoryError))
+    return Status.REFUSED if is_taken else Status.FAILED
+
+
 def may_not_last(file: Path, failure: OSError) -> str:
     """What is so of a file whose name may not outlast a loss of power."""
     return (

@@ -28,7 +28,7 @@ from scribe.cli.opened_book import as_kept
 from scribe.cli.parser import Subparsers, command_parser, readable
 from scribe.words.console import Console
 from scribe.words.import_text import unreadable
-from scribe.words.status import Status, Stop, left_there, may_not_last
+from scribe.words.status import Status, Stop, left_there, may_not_last, status_of
 
 MORE = """\
 TABLE is a table that liblouis has, by its name, as de-g0.utb or de-g0, or its title, or a
@@ -272,8 +272,7 @@ def _written(text: str, arguments: Namespace, console: Console) -> Status:
     except MayNotLast as error:
         raise Stop(may_not_last(file, error), Status.FAILED) from error
     except OSError as error:
-        raise Stop(
-            f"{file} could not be written: {error.strerror}.", Status.FAILED
-        ) from error
+        said = f"{file} could not be written: {error.strerror}."
+        raise Stop(said, status_of(error)) from error
     console.say(f"{file} was written, {text.count(chr(10)):,} lines.")
     return Status.DONE

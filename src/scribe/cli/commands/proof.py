@@ -21,7 +21,7 @@ from scribe.cli.parser import Subparsers, add_file, command_parser
 from scribe.words.console import Console
 from scribe.words.pages import not_exported
 from scribe.words.proof_html import Proof, elsewhere, is_proof
-from scribe.words.status import Status, Stop, left_there, may_not_last
+from scribe.words.status import Status, Stop, left_there, may_not_last, status_of
 
 MORE = """\
 PROOF is one file of HTML for any browser: each page as it will be embossed, the print
@@ -103,9 +103,8 @@ def _written(
     except MayNotLast as error:
         raise Stop(may_not_last(arguments.proof, error), Status.FAILED) from error
     except OSError as error:
-        raise Stop(
-            f"{arguments.proof} could not be written: {error.strerror}.", Status.FAILED
-        ) from error
+        said = f"{arguments.proof} could not be written: {error.strerror}."
+        raise Stop(said, status_of(error)) from error
     count = "1 page" if len(pages) == 1 else f"{len(pages):,} pages"
     console.show(f"{arguments.proof}: {count}.")
     console.say(
