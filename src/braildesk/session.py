@@ -563,7 +563,8 @@ class Session(Asking):
         if not waiting:
             return known
         count = len(waiting) - 1
-        more = f" and {count:,} more commands are" if count else " is"
+        others = "1 more command" if count == 1 else f"{count:,} more commands"
+        more = f" and {others} are" if count else " is"
         return (
             f"{known} It is not known whether {waiting[0].in_words()}{more} in the book. Open the book again: if it is at"
             f" version {self._seen}, nothing more is in it, and each command more makes that greater"

@@ -79,6 +79,15 @@ def test_lines_that_need_what_is_left_out_are_counted_apart() -> None:
     ]
 
 
+def test_one_line_is_said_to_be_one() -> None:
+    assert agreement(Comparison(1, (difference("a", "several passes"),), {})) == [
+        "On 1 line of shapes that were not used for the making, the cells are those of liblouis on"
+        " 0%.",
+        "1 line that differs needs what the profile leaves out for good (several passes 1). Of the"
+        " others 0% agree.",
+    ]
+
+
 def test_a_share_is_rounded_down() -> None:
     assert [percent(share) for share in (1.0, 0.99999, 0.5)] == [
         "100%",

@@ -70,6 +70,19 @@ FAULTS: dict[int, tuple[str | bytes, str]] = {
 }
 
 
+@pytest.mark.parametrize(
+    "line, where",
+    [
+        (b"\xe9 1", "From its first character on"),
+        (b"l\xe9 1", "After its first character"),
+        (b"le\xe9 1", "After its first 2 characters"),
+    ],
+)
+def test_a_line_is_said_to_be_utf_8_as_far_as_it_is(line: bytes, where: str) -> None:
+    (fault,) = read(line).faults
+    assert fault.sentence.startswith(f"{where} the line isn't UTF-8.")
+
+
 @pytest.mark.parametrize("cause", FAULTS)
 def test_each_cause_is_shown_in_words_with_its_line(cause: int, tmp_path: Path) -> None:
     text, sentence = FAULTS[cause]

@@ -668,7 +668,7 @@ def test_a_page_of_another_size_is_refused(shelf: Path, width: int, lines: int) 
         braildesk.export(shelf, 1, width, lines)
     assert caught.value.code == 97
     assert caught.value.sentence == (
-        f"A page can't have {lines} lines of {width} cells. Nothing was exported. Take 10 to 60"
+        f"A page can't be {width} wide and {lines} long. Nothing was exported. Take 10 to 60"
         " cells and 5 to 40 lines."
     )
 

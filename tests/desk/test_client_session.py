@@ -437,6 +437,16 @@ def test_of_a_killed_session_all_that_was_reported_as_kept_is_there(
     assert len(prints) >= len(kept)
 
 
+def test_one_more_command_is_said_to_be_one(book: Path) -> None:
+    with Session(book) as session:
+        os.kill(session.pid, signal.SIGSTOP)
+        answers = session.each(requests.Type("end", "en", each) for each in "ab")
+        os.kill(session.pid, signal.SIGKILL)
+        with pytest.raises(SessionEnded) as caught:
+            next(answers)
+    assert "and 1 more command are in the book." in caught.value.sentence
+
+
 def test_a_killed_session_says_so_at_each_request(book: Path) -> None:
     with Session(book) as session:
         os.kill(session.pid, signal.SIGKILL)

@@ -6,6 +6,7 @@ import signal
 import subprocess
 import sys
 from argparse import Namespace
+from collections import Counter
 from collections.abc import Iterable, Mapping, Sequence
 from io import BytesIO, StringIO
 from itertools import product
@@ -24,9 +25,15 @@ from braildesk.tables.convert.chooser import Choice, Chooser, Print
 from braildesk.tables.convert.draft import Origin, TableDraft
 from braildesk.tables.convert.examples import Example, examples
 from braildesk.tables.convert.learning import Learned, Learner
+from braildesk.tables.convert.manuscript_report import share_line
 from braildesk.tables.convert.oracle import Liblouis
 from braildesk.tables.convert.proposals import chains
-from braildesk.tables.convert.running_text import Word, agreement, spoilers
+from braildesk.tables.convert.running_text import (
+    Agreement,
+    Word,
+    agreement,
+    spoilers,
+)
 from braildesk.tables.convert.tailoring import (
     APOSTROPHES,
     Manuscript,
@@ -636,6 +643,16 @@ def test_a_tenth_of_many_paragraphs_shows_what_the_table_is_worth(
     assert found.held_back.agreement.share_of_words == 0.75
     assert found.own.agreement.words == 40
     assert found.own.agreement.share_of_words == 1
+
+
+def test_one_word_and_one_paragraph_are_said_to_be_one() -> None:
+    found = Agreement(1, 1, 1, (), Counter(), 0)
+    assert share_line(found, " of it") == (
+        "Of 1 word of it 100% has the cells of liblouis, and of 1 paragraph 100%."
+    )
+    assert share_line(Agreement(2, 2, 1, (), Counter(), 0)) == (
+        "Of 2 words 100% have the cells of liblouis, and of 2 paragraphs 50%."
+    )
 
 
 def test_a_table_is_made_for_a_text_by_the_command(tmp_path: Path) -> None:

@@ -58,6 +58,13 @@ def test_cells_are_counted_without_the_numbers_of_pages(moon: Path) -> None:
     assert ran.shown == "out/moon-1.brf: volume 1, 4 pages, 64 cells with dots.\n"
 
 
+def test_one_cell_is_said_to_be_one(book: Path) -> None:
+    with Session(book) as session:
+        session.add_paragraph("end", "en", "a")
+    ran = scribe("export", book, "out", folder=book.parent)
+    assert ran.shown == "out/book-1.brf: volume 1, 1 page, 1 cell with dots.\n"
+
+
 def test_a_volume_that_is_refused_leaves_the_older_file(moon: Path) -> None:
     scribe("volume", moon, "2", "on", folder=moon.parent)
     out = moon.parent / "out"

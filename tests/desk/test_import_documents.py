@@ -563,10 +563,12 @@ def test_what_is_said_of_an_import_of_a_document_that_was_cut_short(
     note = begun(book)
     Drafts(book).begin_import(note)
     assert Drafts(book).imports() == (note,)
-    with Session(book) as session:
-        for text, _ in PARTS[:2]:
-            session.add_paragraph("end", "en", text)
     cut = "The import of moon.md was cut short:"
+    with Session(book) as session:
+        session.add_paragraph("end", "en", PARTS[0][0])
+    assert f"{cut} 1 of its 8 paragraphs is in the book." in put(book).said
+    with Session(book) as session:
+        session.add_paragraph("end", "en", PARTS[1][0])
     assert put(book).said == lines(
         f"{cut} 2 of its 8 paragraphs are in the book.",
         "--continue goes on with paragraph 3, --again types all of it once more, and --leave leaves"

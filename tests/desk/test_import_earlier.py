@@ -101,7 +101,8 @@ def test_an_import_is_noted_before_its_first_paragraph_is_typed(
 
 def where(kept: int) -> str:
     return (
-        f"The import of text.txt was cut short: {kept} of its 12 paragraphs are in the book, up to"
+        f"The import of text.txt was cut short: {kept} of its 12 paragraphs"
+        f" {'is' if kept == 1 else 'are'} in the book, up to"
         f" line {kept} of the text."
     )
 

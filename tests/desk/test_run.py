@@ -267,6 +267,12 @@ def test_a_table_without_all_its_lines_is_refused_and_not_cut(moon: Path) -> Non
     assert braildesk.check(moon) == 7
 
 
+def test_of_a_table_of_one_line_none_may_be_there(moon: Path) -> None:
+    ran = scribe("run", moon, folder=moon.parent, given="table own 1\n")
+    said = "Line 1: The input ends after 0 of the 1 line of this table. Nothing was changed.\n"
+    assert ran == Ran(2, "no 1\n", said)
+
+
 def test_a_table_whose_name_has_a_control_character_takes_its_lines(moon: Path) -> None:
     given = "table o\x1bn 1\nstrike 1\nversion\n"
     ran = scribe("run", moon, "--keep-going", folder=moon.parent, given=given)

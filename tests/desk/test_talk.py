@@ -413,6 +413,13 @@ def test_the_lines_of_a_table_are_asked_for(talk: Prompted) -> None:
     ]
 
 
+def test_the_only_line_of_a_table_is_asked_for(talk: Prompted) -> None:
+    assert talk.type("request table own 1", "1 of 1: ") == [
+        "Now the 1 line of the table own. Ctrl-C",
+        "  gives it up.",
+    ]
+
+
 def test_arrow_keys_never_get_into_a_note(talk: Prompted) -> None:
     talk.keys("request mark 1 0 4 ac\x1b[D")
     talk.keys("b")

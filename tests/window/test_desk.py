@@ -255,6 +255,9 @@ def test_what_is_typed_stays_what_it_is_where_cells_are_shown_otherwise(
     assert desk.window.message.text == "Copied in Braille ASCII: 2 cells."
     clipboard = QApplication.clipboard()
     assert clipboard is not None and clipboard.text() == "SO"
+    desk.window.cells.select(Span(1, 2))
+    desk.act("copy_ascii")
+    assert desk.window.message.text == "Copied in Braille ASCII: 1 cell."
 
 
 def test_no_page_is_shown_of_a_book_that_was_changed_meanwhile(

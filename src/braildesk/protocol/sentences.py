@@ -86,7 +86,7 @@ SENTENCES: Mapping[int, str] = MappingProxyType(
         " have. Nothing was exported. Correct the table of that paragraph.",
         Code.NO_VOLUME: "The book has no volume {volume}. Nothing was exported. Take a smaller number, from 1"
         " on; a book of which each paragraph is struck has no volume at all.",
-        Code.BAD_PAGE_SIZE: "A page can't have {lines} lines of {width} cells. Nothing was exported. Take"
+        Code.BAD_PAGE_SIZE: "A page can't be {width} wide and {lines} long. Nothing was exported. Take"
         f" {limits.WIDTHS[0]} to {limits.WIDTHS[1]} cells and {limits.PAGE_LINES[0]} to"
         f" {limits.PAGE_LINES[1]} lines.",
         Code.CANNOT_OPEN: "{unopened}",

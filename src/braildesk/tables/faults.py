@@ -7,7 +7,7 @@ from dataclasses import dataclass
 from enum import IntEnum
 
 from braildesk.text import limits
-from braildesk.text.characters import named, near, shortened
+from braildesk.text.characters import broken_after, named, near, shortened
 
 #: The characters of a rule or a set, and the cells of a dots operand, at most.
 MOST_CHARACTERS = 60
@@ -146,10 +146,11 @@ def many_lines(line: int) -> Fault:
 
 def not_utf8(line: int, before: int) -> Fault:
     """The line isn't UTF-8."""
+    where = broken_after(before).capitalize()
     return Fault(
         line,
         Cause.NOT_UTF8,
-        f"After its first {before:,} characters the line isn't UTF-8. Save the table as UTF-8.",
+        f"{where} the line isn't UTF-8. Save the table as UTF-8.",
     )
 
 

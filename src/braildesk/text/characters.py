@@ -104,6 +104,13 @@ def visible(text: str, stays: Callable[[str], bool] = is_shown) -> str:
     return "".join(each if stays(each) else f"<{code_point(each)}>" for each in text)
 
 
+def broken_after(count: int) -> str:
+    """Where a line stops being UTF-8, after so many characters."""
+    if not count:
+        return "from its first character on"
+    return f"after its first {'character' if count == 1 else f'{count:,} characters'}"
+
+
 def control_refused(line: bytes) -> str | None:
     """Why a line with a text or a note isn't sent: the control character that it has, or None.
 

@@ -13,7 +13,7 @@ from scribe.prompt.grammar import NotARequest, read_head
 from scribe.prompt.typed_lines import GivenUp, Lines
 from scribe.words.changes import carried_out
 from scribe.words.console import Console
-from scribe.words.paragraph import mark_line
+from scribe.words.paragraph import counted, mark_line
 from scribe.words.replies import refusal_sentence, shown
 from scribe.words.typed import InvalidInput
 
@@ -172,7 +172,7 @@ def _answer(conversation: Conversation, request: Request[Any]) -> None:
 def _block(conversation: Conversation, head: TableHead) -> bytes:
     """The lines of a table's text, as they are typed."""
     conversation.console.show(
-        f"Now the {head.lines:,} lines of the table {head.table}. Ctrl-C gives it up."
+        f"Now the {counted(head.lines, 'line')} of the table {head.table}. Ctrl-C gives it up."
     )
     lines = []
     for number in range(1, head.lines + 1):

@@ -12,6 +12,7 @@ from braildesk.protocol.requests import (
     fields_of,
 )
 from braildesk.text import limits
+from braildesk.text.characters import broken_after
 
 from scribe.words.elsewhere import AMONG_REQUESTS, hint
 
@@ -38,9 +39,7 @@ def read_head(line: bytes) -> Request[Any] | TableHead:
         text = line.decode()
     except UnicodeDecodeError as fault:
         before = len(line[: fault.start].decode())
-        raise NotARequest(
-            f"This line isn't UTF-8 after its first {before:,} characters."
-        ) from None
+        raise NotARequest(f"This line isn't UTF-8 {broken_after(before)}.") from None
     if not text:
         raise NotARequest("An empty line is no request.")
     if text.startswith(" "):

@@ -101,7 +101,7 @@ from scribe.words.aftermath import found_again
 from scribe.words.changes import not_given
 from scribe.words.deeds import Deed, kept
 from scribe.words.drafts import Unsent, came_last, not_kept, where_typed
-from scribe.words.paragraph import quoted
+from scribe.words.paragraph import part_of, quoted
 from scribe.words.preview import Preview, Tables
 from scribe.words.status import Interrupted, Stop, in_sentences, of_system
 
@@ -864,7 +864,7 @@ class Desk:
 
         def tell(done: int, count: int) -> None:
             self._check()
-            report(f"{done:,} of {count:,} paragraphs are laid out.")
+            report(f"{part_of(done, count, 'paragraph')} laid out.")
 
         try:
             found = by_pages.shown(self._session, self._layouts, state, action, tell)

@@ -20,7 +20,7 @@ from scribe.screen.state import (
     field_of,
 )
 from scribe.words.drafts import Unsent, changed_since, what_for, without_paragraph
-from scribe.words.paragraph import quoted
+from scribe.words.paragraph import counted, quoted
 
 _PASTED = (
     "Pasted text goes in after Enter or o. No key of it was obeyed. U brings it back, for a new"
@@ -175,4 +175,4 @@ def _amount(saved: Draft) -> str:
     if lines == 1 and quoted(saved.text) == f"“{visible(saved.text)}”":
         return ""
     of_lines = f", {lines:,} lines" if lines > 1 else ""
-    return f" It has {len(saved.text):,} characters{of_lines}."
+    return f" It has {counted(len(saved.text), 'character')}{of_lines}."

@@ -42,7 +42,7 @@ from scribe.words import deeds, pagelook
 from scribe.words.aftermath import opened_again
 from scribe.words.change_all import Count
 from scribe.words.deeds import Deed, kept
-from scribe.words.paragraph import counted, quoted
+from scribe.words.paragraph import counted, part_of, quoted
 from scribe.words.preview import Tables
 from scribe.words.status import Stop
 
@@ -529,7 +529,7 @@ class OpenBook:
             raise Stop(f"There is no volume {number}: the book has {len(volumes)}.")
 
         def report(done: int, count: int) -> None:
-            say(f"{done:,} of {count:,} paragraphs are laid out.")
+            say(f"{part_of(done, count, 'paragraph')} laid out.")
             if is_stopped():
                 raise Stop("The pages aren't laid out. The caret stays where it was.")
 
@@ -555,7 +555,7 @@ class OpenBook:
         count = len(pagelook.volumes_of(book, version, page_size))
 
         def report(done: int, whole: int) -> None:
-            say(f"{done:,} of {whole:,} paragraphs are laid out.")
+            say(f"{part_of(done, whole, 'paragraph')} laid out.")
             if is_stopped():
                 raise Stop("The pages aren't laid out.")
 

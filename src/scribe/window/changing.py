@@ -15,7 +15,7 @@ from scribe.window.dialogs import IsStopped, Say
 from scribe.window.finding import Finding
 from scribe.words.drafts import not_kept
 from scribe.words.change_all import how_many, nowhere, proposal_lines
-from scribe.words.paragraph import quoted
+from scribe.words.paragraph import part_of, quoted
 from scribe.words.status import Stop
 
 _TITLE = "Change everywhere"
@@ -153,7 +153,7 @@ class Changing:
 
         def act(say: Say, is_stopped: IsStopped) -> tuple[list[str], list[str]]:
             def go_on(changed: int) -> bool:
-                say(f"{changed:,} of {places:,} places are changed.")
+                say(f"{part_of(changed, places, 'place')} changed.")
                 return not is_stopped()
 
             return desk.book.changed_all(wanted, chosen, go_on, _WIDTH)

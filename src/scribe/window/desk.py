@@ -54,7 +54,7 @@ from scribe.window.worker import Worker
 from scribe.words import pagelook
 from scribe.words.console import WAITING
 from scribe.words.drafts import Unsent, came_last, changed_since, not_kept, what_for
-from scribe.words.paragraph import mark_line, title
+from scribe.words.paragraph import counted, mark_line, title
 from scribe.words.preview import Preview
 from scribe.words.status import Interrupted, Stop, in_sentences
 
@@ -558,9 +558,8 @@ class Desk:
         text, braille = reading.its.text, reading.its.braille
         whole = braille if by_cell else text
         if place >= len(whole):
-            said = (
-                f"The end, after {len(whole):,} {'cells' if by_cell else 'characters'}."
-            )
+            what = "cell" if by_cell else "character"
+            said = f"The end, after {counted(len(whole), what)}."
         else:
             sign = text[words.start : words.stop]
             its = f"“{sign}”" if visible(sign) == sign else code_and_name(sign[0])
@@ -581,7 +580,7 @@ class Desk:
             window.here.show_text("")
             return
         fault = self._preview.fault if self._preview else ""
-        count = f"{len(text):,} characters, not in the book yet."
+        count = f"{counted(len(text), 'character')}, not in the book yet."
         where = f"Character {place + 1:,}" if place < len(text) else "The end"
         said = f"{where} of {count}"
         keeps = "Enter keeps it, Escape gives it up."

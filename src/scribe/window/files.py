@@ -107,7 +107,7 @@ class Files:
                 if is_stopped():
                     raise Stop("The proof was stopped. Nothing was written.")
                 pages.append(page)
-                say(f"{len(pages):,} pages are laid out.")
+                say(f"{counted(len(pages), 'page')} laid out.")
             if not pages:
                 raise Stop("The book has no page, so no proof was written.")
             left = open_marks(session) - sum(each.open_marks for each in pages)

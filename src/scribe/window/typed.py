@@ -21,7 +21,7 @@ from scribe.window.desk import CLOSED, Desk, New
 from scribe.window.dialogs import IsStopped, Say
 from scribe.window.fields import MOST_OF_ONE
 from scribe.words.drafts import what_for
-from scribe.words.paragraph import quoted
+from scribe.words.paragraph import part_of, quoted
 from scribe.words.status import Interrupted, Stop
 
 
@@ -288,7 +288,7 @@ class Typed:
 
         def act(say: Say, is_stopped: IsStopped) -> Done:
             def report(done: int, newest: int | None) -> None:
-                say(f"{done:,} of {len(commands):,} paragraphs are typed.")
+                say(f"{part_of(done, len(commands), 'paragraph')} typed.")
                 if newest is not None:
                     self._line_typed(newest)
                 if is_stopped():

@@ -11,6 +11,7 @@ from scribe.window import dialogs
 from scribe.window.desk import NO_PARAGRAPH, Desk
 from scribe.window.menus import key_lines
 from scribe.words.pages import NoSize, described, typed_page_size
+from scribe.words.paragraph import counted
 from scribe.words.status import Stop
 
 
@@ -128,7 +129,7 @@ class View:
         clipboard = QApplication.clipboard()
         assert clipboard is not None
         clipboard.setText(text)
-        self.desk.say(f"Copied {how}: {len(text):,} cells.")
+        self.desk.say(f"Copied {how}: {counted(len(text), 'cell')}.")
 
     def open_again(self) -> None:
         """Opens the book again after its session ended."""

@@ -44,7 +44,8 @@ def export_in_words(job: Job, console: Console) -> Status:
 
 def _written(volume: Written) -> Iterator[str]:
     pages = counted(volume.pages, "page")
-    yield f"{volume.file}: volume {volume.volume}, {pages}, {volume.cells:,} cells with dots."
+    cells = counted(volume.cells, "cell")
+    yield f"{volume.file}: volume {volume.volume}, {pages}, {cells} with dots."
     if volume.differences is not None:
         yield changed_pages(volume.volume, volume.differences)
     if volume.changed_file is not None:

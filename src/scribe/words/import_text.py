@@ -370,7 +370,7 @@ def _faulty(problem: Faulty) -> list[str]:
     sentences += _made_anew(problem)
     if problem.over:
         sentences.append(
-            f"The book has {problem.there:,} paragraphs and the text {problem.count:,}. That is"
+            f"The book has {_paragraphs(problem.there)} and the text {problem.count:,}. That is"
             f" {problem.over:,} too many: a book has at most {limits.PARAGRAPHS:,}."
         )
     return sentences
@@ -605,7 +605,7 @@ def not_seen(fault: NotSeen) -> str:
         why = f"can't be read: {fault.cause.strerror}"
     return (
         f"The import of {note.name} was cut short, and {note.text} {why}. So how much of it is in"
-        f" the book can't be seen: the book had {note.there:,} paragraphs before, and the text"
+        f" the book can't be seen: the book had {_paragraphs(note.there)} before, and the text"
         f" {note.count:,}."
     )
 
@@ -623,4 +623,5 @@ def came_to(its: Unfinished) -> str:
     where = ""
     if not is_of_document(its):
         where = f", up to line {its.whole[its.done - 1].last_line} of the text"
-    return f"{head} {its.done:,} of its {len(its.whole):,} paragraphs are in the book{where}."
+    are = "is" if its.done == 1 else "are"
+    return f"{head} {its.done:,} of its {_paragraphs(len(its.whole))} {are} in the book{where}."

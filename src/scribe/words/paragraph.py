@@ -94,12 +94,20 @@ def no_paragraph(number: int, count: int) -> str:
     """The sentence for a paragraph that isn't there."""
     if not count:
         return f"There is no paragraph {number}: the book has none."
+    if count == 1:
+        return f"There is no paragraph {number}: the book has paragraph 1 alone."
     return f"There is no paragraph {number}: the book has the paragraphs 1 to {count}."
 
 
 def counted(count: int, word: str) -> str:
     """A number of things, of each of which a word is the name, as in “2 pages”."""
     return f"1 {word}" if count == 1 else f"{count:,} {word}s"
+
+
+def part_of(part: int, whole: int, word: str) -> str:
+    """How many of some things are, or one is, what is said after it, as in “1 of 3 pages is”."""
+    are = "is" if 1 in (part, whole) else "are"
+    return f"{part:,} of {counted(whole, word)} {are}"
 
 
 def listed(paragraph: Paragraph, text: str, has_table: bool, width: int) -> list[str]:

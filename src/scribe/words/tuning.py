@@ -6,21 +6,11 @@ from collections.abc import Iterator, Sequence
 from braildesk.tables.convert.causes import Difference
 from braildesk.tables.convert.manuscript_report import counted, differing
 from braildesk.tables.convert.operands import shown
-from braildesk.tables.convert.report import percent
 from braildesk.tables.convert.tailoring import Figures
 from braildesk.tables.convert.tuning import Mend, Tuned
 
 _INDENT = "  "
 _NOT_CERTIFIED = "A rule writes words as liblouis does. That is to be proofread, and is not certified braille."
-
-
-def share_line(figures: Figures) -> str:
-    """How many words and paragraphs have the cells of liblouis."""
-    found = figures.agreement
-    return (
-        f"Of {found.words:,} words {percent(found.share_of_words)} have the cells of liblouis,"
-        f" and of {found.lines:,} paragraphs {percent(found.share_of_lines)}."
-    )
 
 
 def difference_lines(figures: Figures) -> Iterator[str]:

@@ -7,6 +7,7 @@ from collections.abc import Iterator
 
 from braildesk.tables.convert import report
 from braildesk.tables.convert.causes import Difference
+from braildesk.tables.convert.running_text import Agreement
 from braildesk.tables.convert.tailoring import Figures, Tailored
 from braildesk.text.characters import named
 
@@ -41,13 +42,19 @@ def said_of(tailored: Tailored) -> list[str]:
 
 
 def _made_for(tailored: Tailored) -> str:
-    rules = f"{tailored.from_manuscript:,} rules were learned from the manuscript"
+    rules = _learned(tailored.from_manuscript, "the manuscript")
     if tailored.words is None:
         return (
             f"{rules}, and none from a list of words, since none was given or is installed:"
             " words that the manuscript lacks may be wrong."
         )
-    return f"{tailored.from_list:,} rules were learned from {tailored.words.path}, and {rules}."
+    return f"{_learned(tailored.from_list, str(tailored.words.path))}, and {rules}."
+
+
+def _learned(count: int, source: str) -> str:
+    """How many rules were learned from something."""
+    were = "was" if count == 1 else "were"
+    return f"{report.so_many(count, 'rule')} {were} learned from {source}"
 
 
 def _shares(figures: Figures, what: str) -> Iterator[str]:
@@ -55,16 +62,22 @@ def _shares(figures: Figures, what: str) -> Iterator[str]:
     if not found.words:
         yield f"No word of {what} could be compared with liblouis."
         return
-    yield (
-        f"Of {found.words:,} words of {what} {report.percent(found.share_of_words)} have the"
-        f" cells of liblouis, and of {found.lines:,} paragraphs"
-        f" {report.percent(found.share_of_lines)}."
-    )
+    yield share_line(found, f" of {what}")
     if any(cause.is_beyond for cause in figures.causes):
         yield (
             "Without the words that no table of braildesk can write so"
             f" {report.percent(figures.share_within_rules)} of the words have them."
         )
+
+
+def share_line(found: Agreement, what: str = "") -> str:
+    """How many words of something, and how many of its paragraphs, have the cells of liblouis."""
+    have = "has" if found.words == 1 else "have"
+    return (
+        f"Of {report.so_many(found.words, 'word')}{what} {report.percent(found.share_of_words)} {have}"
+        f" the cells of liblouis, and of {report.so_many(found.lines, 'paragraph')}"
+        f" {report.percent(found.share_of_lines)}."
+    )
 
 
 def _lacking(tailored: Tailored) -> Iterator[str]:
@@ -94,14 +107,13 @@ def _causes(figures: Figures) -> Iterator[str]:
 
 def differing(count: int, cause: Difference) -> str:
     """How many words differ, and by what."""
-    words = "1 word differs" if count == 1 else f"{count:,} words differ"
+    words = f"{report.so_many(count, 'word')} differ{'s' if count == 1 else ''}"
     return f"{words} by {cause.value}"
 
 
 def counted(words: Counter[str]) -> str:
     """How many words there are."""
-    count = words.total()
-    return f"{count:,} {'word' if count == 1 else 'words'}"
+    return report.so_many(words.total(), "word")
 
 
 def _examples(words: Counter[str]) -> str:

@@ -77,10 +77,10 @@ def origin(subject: Subject) -> list[str]:
 def losses(made: Made, subject: Subject, addition: Addition | None = None) -> list[str]:
     """What could not be carried over, opcode by opcode with the lines."""
     sentences = []
-    if made.without_cells:
+    if count := len(made.without_cells):
         sentences.append(
-            f"{len(made.without_cells)} characters have no cells that the profile can write: "
-            f"{_characters(made.without_cells)}."
+            f"{so_many(count, 'character')} {'has' if count == 1 else 'have'} no cells that the profile"
+            f" can write: {_characters(made.without_cells)}."
         )
     added = addition.characters if addition is not None else frozenset()
     lacking = [
@@ -146,17 +146,24 @@ def agreement(comparison: Comparison) -> list[str]:
     if not comparison.lines:
         return ["No line could be compared with liblouis."]
     sentences = [
-        f"On {comparison.lines:,} lines of shapes that were not used for the making, the cells are those"
-        f" of liblouis on {percent(comparison.share_of_all)}."
+        f"On {so_many(comparison.lines, 'line')} of shapes that were not used for the making, the cells"
+        f" are those of liblouis on {percent(comparison.share_of_all)}."
     ]
     apart = comparison.apart
     if apart:
         named = ", ".join(f"{name} {count:,}" for name, count in apart.items())
+        count = sum(apart.values())
+        need = "that differs needs" if count == 1 else "that differ need"
         sentences.append(
-            f"{sum(apart.values()):,} lines that differ need what the profile leaves out for good"
+            f"{so_many(count, 'line')} {need} what the profile leaves out for good"
             f" ({named}). Of the others {percent(comparison.share)} agree."
         )
     return sentences
+
+
+def so_many(count: int, what: str) -> str:
+    """A number of things, of each of which a word is the name."""
+    return f"1 {what}" if count == 1 else f"{count:,} {what}s"
 
 
 def percent(share: float) -> str:

@@ -12,6 +12,7 @@ from scribe.cli.opened_book import open_session
 from scribe.cli.parser import Subparsers, add_file, command_parser
 from scribe.prompt.grammar import NotARequest, read_head
 from scribe.words.console import Console
+from scribe.words.paragraph import counted
 from scribe.words.replies import refusal_line, refusal_sentence, reply_lines
 from scribe.words.status import Status
 
@@ -109,7 +110,7 @@ def _whole(head: TableHead, lines: RequestLines) -> Request[Any]:
     text, count = lines.block(head.lines)
     if count < head.lines:
         raise NotARequest(
-            f"The input ends after {count:,} of the {head.lines:,} lines of this table."
+            f"The input ends after {count:,} of the {counted(head.lines, 'line')} of this table."
         )
     if len(text) > limits.TABLE_BYTES:
         raise NotARequest(f"This table has over {limits.TABLE_BYTES:,} bytes.")

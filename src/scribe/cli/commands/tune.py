@@ -9,6 +9,7 @@ from braildesk import Paragraph, Table
 from braildesk.desk.contracted import means_for
 from braildesk.desk.readings import prints
 from braildesk.protocol import requests
+from braildesk.tables.convert.manuscript_report import share_line
 from braildesk.tables.convert.naming import named_table
 from braildesk.tables.convert.oracle import NoLiblouis
 from braildesk.tables.convert.source import NoTable
@@ -20,7 +21,7 @@ from scribe.cli.parser import Subparsers, add_file, add_width, command_parser, r
 from scribe.words.changes import at_version
 from scribe.words.console import Console
 from scribe.words.status import Status, Stop
-from scribe.words.tuning import apart_lines, difference_lines, mend_lines, share_line
+from scribe.words.tuning import apart_lines, difference_lines, mend_lines
 
 MORE = """\
 TABLE is a table that liblouis has, by its name, its title or its file. Every word whose
@@ -105,11 +106,11 @@ def run(arguments: Namespace, console: Console) -> Status:
 
 
 def _found(tuned: Tuned, book: _Book) -> list[str]:
-    lines = [share_line(tuned.before), *difference_lines(tuned.before)]
+    lines = [share_line(tuned.before.agreement), *difference_lines(tuned.before)]
     if tuned.before.causes:
         lines += mend_lines(tuned)
     if tuned.mends:
-        lines.append(f"With them: {share_line(tuned.after)}")
+        lines.append(f"With them: {share_line(tuned.after.agreement)}")
     return [*lines, *apart_lines(tuned.after, book.numbers)]
 
 
