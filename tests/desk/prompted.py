@@ -30,6 +30,13 @@ LOOKING_OFTEN = (
     "from scribe.prompt import typed_lines; typed_lines._TICK = 0.001;"
     " from scribe.cli import main; main()"
 )
+#: The settings of a shell that speaks English, at whose prompt scribe is begun.
+OF_SHELL = {
+    "PS1": "$ ",
+    "TERM": "xterm-256color",
+    "INPUTRC": "/dev/null",
+    "LC_ALL": "C.UTF-8",
+}
 
 
 class Prompted:

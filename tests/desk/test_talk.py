@@ -13,7 +13,7 @@ import braildesk
 from braildesk import pipe
 from scribe.cli.commands import AT_PROMPT
 from scribe.words.typed import InvalidInput, words_of
-from prompted import LOOKING_OFTEN, Prompted
+from prompted import LOOKING_OFTEN, OF_SHELL, Prompted
 from terminal import once_free
 from tool import at_end, at_terminal, end, environment, scribe
 
@@ -473,7 +473,7 @@ def test_ctrl_c_gives_up_the_line_and_not_the_talk(talk: Prompted) -> None:
 def test_a_line_that_ctrl_z_interrupts_is_not_cut_and_goes_on_after_it(
     moon: Path,
 ) -> None:
-    settings = environment(PS1="$ ", TERM="xterm-256color", INPUTRC="/dev/null")
+    settings = environment(**OF_SHELL)
     words = ["--norc", "--noprofile", "-i"]
     shell = at_terminal("bash", *words, settings=settings)
     shell.expect_exact("$ ")
@@ -502,7 +502,7 @@ def test_a_line_that_ctrl_z_interrupts_is_not_cut_and_goes_on_after_it(
 def test_a_talk_that_is_told_to_end_while_it_is_stopped_ends(
     moon: Path, name: str
 ) -> None:
-    settings = environment(PS1="$ ", TERM="xterm-256color", INPUTRC="/dev/null")
+    settings = environment(**OF_SHELL)
     words = ["--norc", "--noprofile", "-i"]
     shell = at_terminal("bash", *words, settings=settings)
     shell.expect_exact("$ ")

@@ -8,7 +8,7 @@ from pathlib import Path
 import pytest
 
 from scribe.prompt import trial, typed_lines
-from prompted import LOOKING_OFTEN, Prompted
+from prompted import LOOKING_OFTEN, OF_SHELL, Prompted
 from tool import (
     WAIT_SECONDS,
     Ran,
@@ -230,7 +230,7 @@ def test_ctrl_c_gives_up_the_line_and_not_the_trial(trying: Prompted) -> None:
 def test_a_trial_that_is_told_to_end_while_it_is_stopped_ends(
     own: Path, name: str, before: str
 ) -> None:
-    settings = environment(PS1="$ ", TERM="xterm-256color", INPUTRC="/dev/null")
+    settings = environment(**OF_SHELL)
     shell = at_terminal("bash", "--norc", "--noprofile", "-i", settings=settings)
     shell.expect_exact("$ ")
     shell.sendline(f"'{sys.executable}' -c '{LOOKING_OFTEN}' try '{own}'")
