@@ -123,7 +123,8 @@ ASKED: dict[str, Ask] = {
         over, "Bring back", "Which?", [f"1. A text of paragraph 12: {QUOTED}"], 0
     ),
     "words": lambda over: dialogs.fields(
-        over, "Change", ("&Words:", f"What comes in place of {QUOTED}:"), ("", ""), ()
+        *(over, "Change", ("&Words:", f"What comes in place of {QUOTED}:"), ("", "")),
+        ("Whatever the &capitals, which are kept",),
     ),
     "a folder": lambda over: dialogs.folder(
         over, "Export", f"The folder to which the volumes of {QUOTED} go:", "pages"
@@ -139,10 +140,23 @@ ASKED: dict[str, Ask] = {
 }
 
 
+@pytest.mark.parametrize("is_low", [False, True])
 @pytest.mark.parametrize("asked", ASKED.values(), ids=ASKED.keys())
 def test_a_dialog_is_whole_on_the_screen(
-    large: None, application: QApplication, asked: Ask
+    large: None,
+    application: QApplication,
+    monkeypatch: pytest.MonkeyPatch,
+    asked: Ask,
+    is_low: bool,
 ) -> None:
+    screen = application.primaryScreen()
+    assert screen is not None
+    room = screen.availableSize()
+    if is_low:
+        width, height = dialogs._LESS_FOR_FRAME
+        its = width - room.width() + LOW.width(), height - room.height() + LOW.height()
+        monkeypatch.setattr(dialogs, "_LESS_FOR_FRAME", its)
+        room = LOW
     over = QWidget()
     found: list[tuple[QSize, list[str]]] = []
 
@@ -160,9 +174,8 @@ def test_a_dialog_is_whole_on_the_screen(
     QTimer.singleShot(0, look)
     asked(over)
     ((size, cut),) = found
-    screen = application.primaryScreen()
-    assert screen is not None and not cut
-    assert size.boundedTo(screen.availableSize()) == size
+    assert not cut
+    assert size.boundedTo(room) == size
 
 
 def _is_cut(part: QLabel | QPushButton) -> bool:

@@ -44,6 +44,8 @@ _LESS_FOR_FRAME = -8, -40
 _LINE, _BESIDE = 50, 60
 # how wide dialogs are, where the screen is
 _WIDTH, _FOLDER_WIDTH = 480, 560
+# by how much letters become smaller for which a screen is too small, and how small they are at least
+_SMALLER, _LEAST_POINTS = 0.9, 7.0
 
 
 @contextmanager
@@ -64,11 +66,31 @@ def _back_to(over: QWidget | None, dialog: QDialog | None = None) -> Iterator[No
 def _fit(dialog: QDialog, width: int = 0, height: int = 0) -> None:
     """Has a dialog be as large as it needs to be, of a size at least, and whole on the screen.
 
-    Where letters are large its words go on in the next line, and its buttons stand below each other.
+    Where letters are large its words go on in the next line, and its buttons stand below each other;
+    where the screen is too small for that, its letters are smaller.
     """
     screen = dialog.screen()
     assert screen is not None
     room = screen.availableGeometry().adjusted(0, 0, *_LESS_FOR_FRAME).size()
+    for names in _within(dialog, QComboBox):
+        policy = QComboBox.SizeAdjustPolicy.AdjustToMinimumContentsLengthWithIcon
+        names.setSizeAdjustPolicy(policy)
+    # some have their other parts only once they were asked for a size
+    dialog.sizeHint()
+    _lay_out(dialog, room)
+    its = dialog.font()
+    while not _has_room(dialog, width, room):
+        its.setPointSizeF(its.pointSizeF() * _SMALLER)
+        if its.pointSizeF() < _LEAST_POINTS:
+            break
+        dialog.setFont(its)
+        _lay_out(dialog, room)
+    wanted = QSize(width, height).expandedTo(dialog.sizeHint())
+    dialog.resize(wanted.boundedTo(room))
+
+
+def _lay_out(dialog: QDialog, room: QSize) -> None:
+    """Has no part of a dialog be wider than there is room."""
     for label in _within(dialog, QLabel):
         # words of a book that look like those of a page would be taken for that, with its pictures
         label.setTextFormat(Qt.TextFormat.PlainText)
@@ -78,13 +100,21 @@ def _fit(dialog: QDialog, width: int = 0, height: int = 0) -> None:
         line = letters.averageCharWidth() * _LINE
         least = min(longest, line, room.width() - _BESIDE)
         # a narrower one is made wide enough by Qt, for which it may not be said to be
-        if least > min(room.width() // 2, _WIDTH):
-            label.setMinimumWidth(least)
+        is_wide = least > min(room.width() // 2, _WIDTH)
+        label.setMinimumWidth(least if is_wide else 0)
     for buttons in _within(dialog, QDialogButtonBox):
-        if buttons.sizeHint().width() > room.width():
+        buttons.setOrientation(Qt.Orientation.Horizontal)
+        if buttons.sizeHint().width() > room.width() - _BESIDE:
             buttons.setOrientation(Qt.Orientation.Vertical)
-    wanted = QSize(width, height).expandedTo(dialog.sizeHint())
-    dialog.resize(wanted.boundedTo(room))
+
+
+def _has_room(dialog: QDialog, width: int, room: QSize) -> bool:
+    """Whether a dialog that is so wide at least has room."""
+    layout = dialog.layout()
+    assert layout is not None
+    least = layout.totalMinimumSize().width()
+    wide = min(max(width, least, room.width() // 2), room.width())
+    return least <= room.width() and layout.totalHeightForWidth(wide) <= room.height()
 
 
 def _within(dialog: QDialog, kind: type[Part]) -> list[Part]:
@@ -414,7 +444,7 @@ class _Progress(QDialog):
             self._label.setText(self.said)
             # it doesn't become lower again, so that its button stays where it is
             height = self.heightForWidth(self.width())
-            self.resize(self.width(), max(self.height(), height))
+            _fit(self, self.width(), max(self.height(), height))
 
     def reject(self) -> None:
         """Has the work end, for which the dialog waits."""
