@@ -266,17 +266,23 @@ def test_what_is_pressed_after_the_key_that_closes_does_nothing_and_its_text_is_
     )
 
 
-def test_what_is_pressed_before_the_window_closes_is_held(
-    application: QApplication, desk: Desk
+def test_what_comes_together_with_the_key_that_closes_is_not_obeyed_after_it(
+    moon: Path, at: Open
 ) -> None:
-    desk.window.show()
-    handle, none = desk.window.windowHandle(), Qt.KeyboardModifier.NoModifier
-    desk.act("leave")
-    key = QKeyEvent(QEvent.Type.KeyPress, Qt.Key.Key_S, none, "s")
-    QCoreApplication.sendEvent(handle, key)
-    assert desk.held.text == "s"
-    assert wait(application, 60, lambda: not desk.window.isVisible())
-    assert not desk.chosen.struck
+    window = at(moon)
+    window.press("F2")
+    window.focus("text", "Print")
+    window.type("A ")
+    window.reads("Print", "A The Moon")
+    # as a machine that has much to do hands keys on
+    window.program.send_signal(signal.SIGSTOP)
+    window.press("Ctrl+q")
+    window.press("Ctrl+d")
+    window.program.send_signal(signal.SIGCONT)
+    shown, _ = window.program.communicate(timeout=120)
+    assert shown.decode() == "moon.braildesk is at version 6.\n"
+    with Session(moon) as session:
+        assert not session.paragraphs()[0].struck
 
 
 class Pressed(QWindow):

@@ -100,7 +100,7 @@ class Menus:
     """The actions of a window, in its menus."""
 
     def __init__(
-        self, window: QMainWindow, acts: Mapping[str, Callable[[], None]]
+        self, window: QMainWindow, acts: Mapping[str, Callable[[], object]]
     ) -> None:
         self.actions: dict[str, QAction] = {}
         self._letters: dict[str, QAction] = {}
@@ -155,6 +155,10 @@ def key_lines() -> list[str]:
     return lines
 
 
-def _slot(act: Callable[[], None]) -> Callable[[], None]:
-    """What is called without the state that an action comes with."""
-    return lambda: act()
+def _slot(act: Callable[[], object]) -> Callable[[], None]:
+    """What is called without the state that an action comes with, and gives nothing."""
+
+    def slot() -> None:
+        act()
+
+    return slot

@@ -1,8 +1,5 @@
 """What is seen of the book at work, in which form, and what is copied of it."""
 
-from contextlib import ExitStack
-
-from PyQt6.QtCore import QTimer
 from PyQt6.QtWidgets import QApplication
 
 from braildesk.text.cells import braille_ascii
@@ -140,15 +137,3 @@ class View:
         more = desk.taken_again(desk.work.result(desk.book.opened_again))
         version = desk.contents.version
         desk.say(f"The book is open again, at version {version:,}. {more}".rstrip())
-
-    def leave(self) -> None:
-        """Ends the work, once this action is done. What is pressed meanwhile does nothing more."""
-        until_then = ExitStack()
-        until_then.enter_context(self.desk.held.holding())
-
-        def close() -> None:
-            until_then.close()
-            self.desk.window.close()
-
-        # once no action is going on any more
-        QTimer.singleShot(0, close)

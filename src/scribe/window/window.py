@@ -83,7 +83,8 @@ class Window(QMainWindow):
         self.message = Field("Message", True)
         self.page = Field("Page", True)
         self.print_label = QLabel()
-        self.menus = Menus(self, acts)
+        # at once, since keys that came with this one are obeyed before what is done later
+        self.menus = Menus(self, {**acts, "leave": self.close})
         self._lay_out()
         self._settings = QSettings("braildesk", "window")
         self._restore()
