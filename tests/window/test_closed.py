@@ -98,6 +98,27 @@ def test_a_text_of_a_closed_book_that_can_be_kept_nowhere_does_not_go_unasked(
     desk.window.print.setPlainText("The Moon")
 
 
+def test_of_what_is_typed_in_a_closed_book_it_is_not_said_that_enter_keeps_it(
+    desk: Desk, moon: Path
+) -> None:
+    field = desk.window.print
+    field.insertPlainText("Oh, ")
+    counted = "Character 5 of 12 characters, not in the book yet."
+    keeps = "Enter keeps it, Escape gives it up."
+    assert desk.window.here.text == f"{counted} {keeps}"
+    os.kill(desk.book.pid, signal.SIGKILL)
+    moon.rename(there := moon.with_name("elsewhere"))
+    desk.act("keep")
+    assert desk.is_closed and desk.is_typed()
+    assert desk.window.here.text == f"{counted} Escape gives it up."
+    field.insertPlainText("my ")
+    assert desk.window.here.text.endswith(" yet. Escape gives it up.")
+    there.rename(moon)
+    desk.act("open_again")
+    assert desk.window.here.text.endswith(f" yet. {keeps}")
+    desk.act("give_up")
+
+
 def test_lines_that_were_not_typed_yet_wait_if_the_window_is_ended(
     desk: Desk, asked: dict[str, int], monkeypatch: pytest.MonkeyPatch
 ) -> None:

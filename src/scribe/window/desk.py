@@ -583,7 +583,9 @@ class Desk:
         count = f"{counted(len(text), 'character')}, not in the book yet."
         where = f"Character {place + 1:,}" if place < len(text) else "The end"
         said = f"{where} of {count}"
-        keeps = "Enter keeps it, Escape gives it up."
+        keeps = "Escape gives it up."
+        if not self.is_closed:
+            keeps = f"Enter keeps it, {keeps}"
         window.here.show_text(" ".join(filter(None, [fault, said, keeps])))
 
     def marks_here(self) -> list[Mark]:
@@ -973,6 +975,8 @@ class Desk:
             self.is_closed, self.loss = True, " ".join(said)
             more = self._what_is_typed(lost)
             self._follow(lost)
+            # the place says no more of the book, and of what is typed not that Enter keeps it
+            self.link()
             self.refuse(" ".join([*said, *more]))
             return
         said.append(self.taken_again(found))
