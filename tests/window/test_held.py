@@ -10,8 +10,8 @@ from collections.abc import Iterator, Sequence
 from pathlib import Path
 
 import pytest
-from PyQt6.QtCore import QCoreApplication, QEvent, Qt
-from PyQt6.QtGui import QKeyEvent, QWindow
+from PyQt6.QtCore import QCoreApplication, QEvent, QMimeData, Qt, QTimer
+from PyQt6.QtGui import QDragEnterEvent, QDropEvent, QKeyEvent, QWindow
 from PyQt6.QtWidgets import QApplication, QDialog
 
 from braildesk import Session
@@ -283,6 +283,33 @@ def test_what_comes_together_with_the_key_that_closes_is_not_obeyed_after_it(
     assert shown.decode() == "moon.braildesk is at version 6.\n"
     with Session(moon) as session:
         assert not session.paragraphs()[0].struck
+
+
+def test_what_is_dropped_while_the_window_waits_stays_where_it_comes_from(
+    application: QApplication, desk: Desk
+) -> None:
+    window, program, data = desk.window, desk.book.pid, QMimeData()
+    data.setText("It set.")
+    window.show()
+    taken: list[bool] = []
+
+    def drop() -> None:
+        at = window.print.mapTo(window, window.print.rect().center())
+        keys, its = Qt.KeyboardModifier.NoModifier, Qt.MouseButton.LeftButton
+        to, action = window.windowHandle(), Qt.DropAction.CopyAction
+        enter = QDragEnterEvent(at, action, data, its, keys)
+        for event in (enter, QDropEvent(at.toPointF(), action, data, its, keys)):
+            QCoreApplication.sendEvent(to, event)
+            taken.append(event.isAccepted())
+        os.kill(program, signal.SIGCONT)
+
+    drop()
+    assert (window.print.text, taken) == ("The MoonIt set.", [True, True])
+    os.kill(program, signal.SIGSTOP)
+    QTimer.singleShot(0, drop)
+    desk.act("keep")
+    assert (window.print.text, taken[2:]) == ("The MoonIt set.", [False, False])
+    assert desk.contents.version == 6
 
 
 class Pressed(QWindow):

@@ -24,6 +24,8 @@ _BY_HANDS = frozenset(
 # what Qt makes of keys before they come to a window
 _OF_KEYS = frozenset((_KINDS.Shortcut, _KINDS.InputMethod))
 _OF_TEXT = frozenset((_KINDS.KeyPress, _KINDS.InputMethod))
+# what is dragged, which is there only for now
+_OF_DRAGS = frozenset((_KINDS.DragEnter, _KINDS.DragMove, _KINDS.Drop))
 
 
 class Held(QObject):
@@ -97,13 +99,19 @@ class Held(QObject):
         return "".join(typed)
 
     def eventFilter(self, to: QObject | None, event: QEvent | None) -> bool:
-        """Takes what hands do while something is waited for, and what they did after that."""
+        """Takes what hands do while something is waited for, and what they did after that.
+
+        What they drag isn't taken, and stays where it comes from.
+        """
         is_held = self._waits or self._events or self._is_over
         if not is_held or to is None or event is None:
             return False
         over, kind = QApplication.activeModalWidget(), event.type()
         # a dialog that opens while something is waited for can be answered
         is_answer = bool(self._waits) and over is not self._over
+        if not is_answer and kind in _OF_DRAGS and isinstance(to, QWindow):
+            event.ignore()
+            return True
         if is_answer or event is self._obeyed or not self._is_by_hands(to, kind):
             return False
         copy = event.clone()
