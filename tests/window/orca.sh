@@ -15,5 +15,5 @@ export SILENT=$scratch/silent XDG_RUNTIME_DIR=$scratch/runtime HOME=$scratch/hom
 export XDG_STATE_HOME=$scratch/home/state XDG_CONFIG_HOME=$scratch/home/config QT_LINUX_ACCESSIBILITY_ALWAYS_ON=1
 unset WAYLAND_DISPLAY QT_SCALE_FACTOR
 # xvfb-run takes no path with blanks, and X has its socket in /tmp in any case
-TMPDIR=/tmp xvfb-run -a -s '-screen 0 1024x768x24 -noreset' env TMPDIR="${TMPDIR:-/tmp}" dbus-run-session -- "$PYTHON" tests/window/orca_day.py "$scratch" tests/window/orca.txt 2> "$scratch/said" ||
+TMPDIR=/tmp xvfb-run -a -s '-screen 0 1024x768x24 -noreset -r' env TMPDIR="${TMPDIR:-/tmp}" dbus-run-session -- "$PYTHON" tests/window/orca_day.py "$scratch" tests/window/orca.txt 2> "$scratch/said" ||
     { status=$?; cat "$scratch/said" >&2; exit $status; }

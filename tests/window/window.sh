@@ -14,7 +14,7 @@ mkdir -m 700 "$scratch/runtime"
 # no theme, no scaling and no sizes of a person's own; the bus of accessibility is asked for before anybody listens
 export XDG_RUNTIME_DIR=$scratch/runtime QT_QPA_PLATFORM=xcb QT_QPA_PLATFORMTHEME='' QT_LINUX_ACCESSIBILITY_ALWAYS_ON=1 LANG=C.UTF-8
 unset WAYLAND_DISPLAY QT_SCALE_FACTOR
-# A server that begins anew once its last window is closed refuses the next one for a moment. xvfb-run takes no path with blanks, and X has
-# its socket in /tmp in any case.
-TMPDIR=/tmp xvfb-run -a -s '-screen 0 1024x768x24 -noreset' env TMPDIR="${TMPDIR:-/tmp}" dbus-run-session -- "$PYTHON" -m pytest -q -p no:cacheprovider tests/window "$@" \
+# A server that begins anew once its last window is closed refuses the next one for a moment. One with -r repeats no key of which the
+# release comes late. xvfb-run takes no path with blanks, and X has its socket in /tmp in any case.
+TMPDIR=/tmp xvfb-run -a -s '-screen 0 1024x768x24 -noreset -r' env TMPDIR="${TMPDIR:-/tmp}" dbus-run-session -- "$PYTHON" -m pytest -q -p no:cacheprovider tests/window "$@" \
     2> "$scratch/said" || { status=$?; cat "$scratch/said" >&2; exit $status; }
