@@ -126,6 +126,18 @@ def test_the_first_of_pasted_lines_stays_typed_where_the_book_refuses_it(
     desk.act("give_up")
 
 
+def test_of_a_new_paragraph_that_is_empty_again_no_character_of_another_is_said(
+    desk: Desk,
+) -> None:
+    desk.act("new_after")
+    said = desk.window.here.text
+    assert said.startswith("The end of 0 characters, not in the book yet.")
+    desk.window.print.insertPlainText("x")
+    desk.window.print.textCursor().deletePreviousChar()
+    assert desk.window.here.text == said
+    desk.act("give_up")
+
+
 @pytest.mark.parametrize("typed", ["", "  "])
 def test_a_new_paragraph_of_blanks_alone_is_not_put_into_the_book(
     desk: Desk, typed: str

@@ -522,7 +522,7 @@ class Desk:
         A caret that was moved off the mark in hand lets go of it.
         """
         reading, window = self.reading, self.window
-        if self.is_closed or reading is None or self.is_typed():
+        if self.is_closed or reading is None or self.new or self.is_typed():
             self._light = None
             self._unlinked()
             return
