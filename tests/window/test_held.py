@@ -285,6 +285,26 @@ def test_what_comes_together_with_the_key_that_closes_is_not_obeyed_after_it(
         assert not session.paragraphs()[0].struck
 
 
+@pytest.mark.parametrize("is_new", [False, True])
+def test_what_another_program_types_while_the_window_waits_is_kept_too(
+    moon: Path, at: Open, is_new: bool
+) -> None:
+    window = at(moon)
+    window.press("Ctrl+Return" if is_new else "F2")
+    window.focus("text", "Print")
+    window.insert("Print", "It rose.")
+    window.reads("Print", "It rose.")
+    program = session_of(window)
+    os.kill(program, signal.SIGSTOP)
+    window.press("Return")
+    window.reads("Message", WAITING)
+    window.insert("Print", "It rose. It set.")
+    window.reads("Print", "It rose. It set.")
+    os.kill(program, signal.SIGCONT)
+    window.says("Kept")
+    assert "It rose. It set." in prints_after(window, moon)
+
+
 def test_what_is_dropped_while_the_window_waits_stays_where_it_comes_from(
     application: QApplication, desk: Desk
 ) -> None:

@@ -858,17 +858,27 @@ class Desk:
             self.keep_draft(self.draft())
             is_settled = not self.is_typed() and self.new is None
             return is_settled and not self.is_closed
+        # what others than hands typed meanwhile
+        later = self.typed_text()
+        self._show_settled(done, min(place, len(text)))
+        if later == text:
+            return True
+        self.window.print.selectAll()
+        self.window.print.textCursor().insertText(later)
+        return self.settle()
+
+    def _show_settled(self, done: Done | None, place: int) -> None:
+        """Shows what was typed as it was kept, with the caret at a place."""
         self.keep_draft(None)
         self.new = None
         self._is_showing = True
-        self.window.print.put_caret(min(place, len(text)))
+        self.window.print.put_caret(place)
         self._is_showing = False
         self.window.print.have_kept()
         if done is None:
             self.show_reading(place)
         else:
             self.show_done(done)
-        return True
 
     def settled(self) -> int:
         """The number of the chosen paragraph, once what was typed is kept."""
