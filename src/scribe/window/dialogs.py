@@ -72,9 +72,6 @@ def _fit(dialog: QDialog, width: int = 0, height: int = 0) -> None:
     screen = dialog.screen()
     assert screen is not None
     room = screen.availableGeometry().adjusted(0, 0, *_LESS_FOR_FRAME).size()
-    for names in _within(dialog, QComboBox):
-        policy = QComboBox.SizeAdjustPolicy.AdjustToMinimumContentsLengthWithIcon
-        names.setSizeAdjustPolicy(policy)
     # some have their other parts only once they were asked for a size
     dialog.sizeHint()
     _lay_out(dialog, room)
