@@ -121,6 +121,55 @@ def test_what_stands_between_lines_of_hyphens_after_what_is_shown_as_written_is_
     assert not found.missing
 
 
+@pytest.mark.parametrize(
+    "before, texts",
+    [
+        ("```\ncode\n\n", ["``` code"]),
+        ("~~~~\ncode\n~~~\n\n", ["~~~~ code ~~~"]),
+        ("~~~\ncode\n~~~\n", ["code"]),
+        ("- ```\n  code\n  ```\n\n", ["\u2022 code"]),
+        ("<div>\n\ncode\n\n</div>\n", ["code"]),
+        ("Code\n====\n", ["Code"]),
+        ("One\n---\n\n", ["One"]),
+    ],
+)
+def test_what_stands_between_lines_of_hyphens_after_what_has_no_end_is_print(
+    before: str, texts: list[str]
+) -> None:
+    found = read(f"---\n...\n\n{before}---\nAnna: no\n---\n\nEnd\n")
+    assert found.texts == [*texts, "Anna: no", "End"]
+    assert not found.missing
+
+
+@pytest.mark.parametrize(
+    "scene, texts",
+    [
+        ("> ---\n> Anna: no\n> ---", ["Anna: no"]),
+        ("- On\n\n  ---\n  Anna: no\n  ---", ["\u2022 On", "Anna: no"]),
+        (
+            "a | b\n--|--\nc | d\n---\nAnna: no\n---",
+            ["a; b", "c; d", "\u2014 Anna: no \u2014"],
+        ),
+        (
+            "> ```\n> a\n\n---\nAnna: no\n---\n\n```",
+            ["``` a", "\u2014 Anna: no \u2014", "```"],
+        ),
+        ("One\ntwo\n---\nthree", ["One two \u2014 three"]),
+        ("One\n---\nAnna: no\n---", ["One", "Anna: no"]),
+        # lines that are shown as they are written
+        ("```\n\n---\nAnna: no\n---\n```", ["---", "Anna: no", "---"]),
+        ("    ---\n    Anna: no\n    ---", ["---", "Anna: no", "---"]),
+        ("1. ```\n---\na: b\n---\n   ```", ["1. ---", "a: b", "---"]),
+    ],
+)
+def test_what_stands_between_lines_of_hyphens_in_something_else_is_print(
+    scene: str, texts: list[str]
+) -> None:
+    found = read(f"---\n...\n\n{scene}\n\nEnd\n")
+    assert found.texts == [*texts, "End"]
+    assert not found.missing
+
+
 def test_a_note_to_which_several_numbers_lead_is_typed_once() -> None:
     found = read(
         "One[^a], two[^b] and^[Ibid.] again[^a].\n\nThree[^a]^[Ibid.][^c][^d].\n\n"

@@ -153,7 +153,8 @@ def _readable(data: bytes, kind: ManuscriptKind) -> tuple[bytes, list[Loss]]:
     if kind is ManuscriptKind.HTML:
         return pages.readable_page(data.decode()).encode(), []
     if kind is ManuscriptKind.MARKDOWN:
-        text, unmarked = with_marks(with_one_front(data.decode()))
+        text, unmarked = with_marks(data.decode())
+        text = with_one_front(text)
         check_tables(text)
         return text.encode(), unmarked
     return data, []

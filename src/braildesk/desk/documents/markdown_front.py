@@ -7,29 +7,61 @@ between two scenes: it leaves out all but the last of each name, and what is no 
 import re
 from collections.abc import Sequence
 
-#: A line that begins what a text says about itself, and one that begins or ends lines that are shown as they
-#: are written, which has no signs of its end itself.
-_HYPHENS, _FENCE = "---", re.compile(r"[ \t>]*(`{3,}+(?=[^`]*$)|~{3,})(.*)")
-#: What ends it.
+from braildesk.desk.documents.markdown_notes import AHEAD, BEFORE_NOTE, NO_NOTE
+
+#: The line that begins what a text says about itself, and what ends it.
+_HYPHENS = "---"
 _ENDS = (_HYPHENS, "...")
+#: Such a line further on, and one in which it isn't indented so far that it may be shown as it is written.
+_BEGINNING = re.compile(rf"(?:[ \t>]*|.*>[ \t]*){_HYPHENS}[ \t]*")
+_PLAIN = re.compile(rf"(?: {{0,3}}>)* {{0,3}}{_HYPHENS}[ \t]*")
+#: A line that begins lines that are shown as they are written, or ends them if it has no other signs.
+_FENCE = re.compile(rf"({AHEAD})(`{{3,}}+(?=[^`]*$)|~{{3,}})(.*)")
 
 
 def with_one_front(text: str) -> str:
-    """A text in which lines of hyphens after its front, which mean the same in print, have one more."""
+    """A text in which lines of hyphens after its front, which mean the same in print, have one more.
+
+    Where they may be shown as they are written, or be a dash, they have a mark before them.
+    """
     lines = text.split("\n")
-    is_after_blank, fence = False, ""
+    ended = _ended(lines)
+    fence = ""
     for place in range(_front(lines), len(lines) - 1):
         line = lines[place]
         fenced = _FENCE.match(line)
-        if fenced and not fence:
-            fence = fenced[1]
-        elif fenced and fenced[1].startswith(fence) and not fenced[2].strip():
+        if fenced and not fence and place in ended:
+            fence = fenced[2]
+        elif fenced and fenced[2].startswith(fence) and _is_end(fenced):
             fence = ""
-        is_begun = line.rstrip() == _HYPHENS and bool(lines[place + 1].strip())
-        if is_begun and is_after_blank and not fence:
-            lines[place] = f"{_HYPHENS}-"
-        is_after_blank = not line.strip()
+        if lines[place + 1].strip(" \t>") and _BEGINNING.fullmatch(line):
+            before = lines[max(place - 2, 0) : place]
+            are_after = [BEFORE_NOTE.fullmatch(each) is not None for each in before]
+            if not fence and are_after[-1:] == [True] and _PLAIN.fullmatch(line):
+                lines[place] = f"{line.rstrip()}-"
+            # what stands below one line makes a heading of it
+            elif fence or are_after != [True, False]:
+                lines[place] = f"{NO_NOTE}{_HYPHENS}".join(line.rsplit(_HYPHENS, 1))
     return "\n".join(lines)
+
+
+def _ended(lines: Sequence[str]) -> set[int]:
+    """The lines that begin what is shown as it is written which have one after them that ends it."""
+    ended: set[int] = set()
+    longest = {"`": 0, "~": 0}
+    for place in reversed(range(len(lines))):
+        if fenced := _FENCE.match(lines[place]):
+            sign, length = fenced[2][0], len(fenced[2])
+            if length <= longest[sign]:
+                ended.add(place)
+            if _is_end(fenced):
+                longest[sign] = max(longest[sign], length)
+    return ended
+
+
+def _is_end(fenced: re.Match[str]) -> bool:
+    """Whether a line may end what is shown as it is written."""
+    return not fenced[1].strip(" \t>") and not fenced[3].strip()
 
 
 def _front(lines: Sequence[str]) -> int:

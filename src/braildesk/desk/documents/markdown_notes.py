@@ -27,8 +27,10 @@ _INDENTED = re.compile(r"[ \t>]*(?: {4}|\t)")
 _IN_NO_LIST = re.compile("(?: {0,3}>)* {0,3}")
 #: What stands around the number of a mark, which no text has; and what it adds to lines that are no note.
 _FRONT, _END = "\ue0f0", "\ue0f1"
+#: A mark that no note has.
+NO_NOTE = f"{_FRONT}{_END}"
 _WORD = re.compile(r"[^\W_]+")
-_MARK = re.compile(f"{_FRONT}([0-9]+){_END}(?:\n[ \t>]*\n[ \t>]* {{4}}|\n)?")
+_MARK = re.compile(f"{_FRONT}([0-9]*){_END}(?:\n[ \t>]*\n[ \t>]* {{4}}|\n)?")
 
 
 def with_marks(text: str) -> tuple[str, list[Loss]]:
