@@ -1447,6 +1447,72 @@ def test_libreoffice_is_told_to_fetch_nothing_to_which_a_document_links(
     assert read_document(WORD, ManuscriptKind.DOC).texts == ["Made"]
 
 
+def test_a_field_with_the_name_of_a_document_has_that_and_not_that_of_its_copy(
+    tmp_path: Path, programs: Path
+) -> None:
+    made = docx(tmp_path / "made.docx", paragraph(run("PATH, FILE and STEM, a moon")))
+    program(
+        programs,
+        "soffice",
+        'mkdir -p "$6"',
+        'file="${7##*/}"',
+        f'{sys.executable} - {made} "$7" "$file" "${{file%.doc}}" <<\'END\'',
+        "import sys, zipfile",
+        "path, *found = sys.argv[1:]",
+        "parts = zipfile.ZipFile(path)",
+        "read = {name: parts.read(name).decode() for name in parts.namelist()}",
+        "with zipfile.ZipFile(path, 'w') as other:",
+        "    for name, part in read.items():",
+        "        for shown, own in zip(('PATH', 'FILE', 'STEM'), found):",
+        "            part = part.replace(shown, own)",
+        "        other.writestr(name, part)",
+        "END",
+        f'cp {made} "$6/$file.docx"',
+    )
+    path = tmp_path / "A & B\t.doc"
+    path.write_bytes(WORD)
+    name = "A & B\ufffd"
+    texts = [f"{name}.doc, {name}.doc and {name}, a moon"]
+    assert read_manuscript(path).texts == texts
+
+
+@pytest.mark.parametrize(
+    "code, kept",
+    [
+        (r"{\*\fldinst FILENAME \\p }", r"{\*\fldinsx FILENAME \\p }"),
+        (
+            r"{\*\fldinst {\rtlch\af0 \insrsid1  FILE}{\b0 NAME}}",
+            r"{\*\fldinsx {\rtlch\af0 \insrsid1  FILE}{\b0 NAME}}",
+        ),
+        (
+            r'{\fldinst{includepicture "/a/b.png" \\d}}',
+            r'{\*\fldinsx{includepicture "/a/b.png" \\d}}',
+        ),
+        (r"\\\\{\*\fldinst DATE}", r"\\\\{\*\fldinsx DATE}"),
+        # what LibreOffice knows better than the text, and print
+        (r"{\*\fldinst HYPERLINK DATE}", r"{\*\fldinst HYPERLINK DATE}"),
+        (r"{\*\fldinst SYMBOL 183}", r"{\*\fldinst SYMBOL 183}"),
+        (r"\\fldinst DATE", r"\\fldinst DATE"),
+        (r"\fldinsts DATE", r"\fldinsts DATE"),
+    ],
+)
+def test_fields_of_rtf_that_say_something_of_a_file_are_typed_as_they_stand_there(
+    tmp_path: Path, programs: Path, code: str, kept: str
+) -> None:
+    made = docx(tmp_path / "made.docx", paragraph(run("Made")))
+    seen = tmp_path / "seen.rtf"
+    program(
+        programs,
+        "soffice",
+        f'cp "$7" {seen}',
+        'mkdir -p "$6"',
+        f'cp {made} "$6/manuscript.docx"',
+    )
+    text = r"{{\rtf1 {{\field{}{{\fldrslt moon.rtf}}}}}}"
+    read_document(text.format(code).encode(), ManuscriptKind.RTF)
+    assert seen.read_text() == text.format(kept)
+
+
 def test_odt_is_taken_as_it_loses_fewer_words(tmp_path: Path, programs: Path) -> None:
     made = docx(tmp_path / "made.docx", paragraph(run("One two")))
     program(programs, "soffice", 'mkdir -p "$6"', f'cp {made} "$6/manuscript.docx"')

@@ -447,7 +447,7 @@ def _signs_for(job: Import, reading: ReadingOptions) -> ReadingOptions:
 def _taken(job: Import, data: bytes) -> Taken:
     """What is read of a manuscript."""
     try:
-        found = taken(data, job.by_lines, job.how)
+        found = taken(data, job.by_lines, job.how, job.text.name)
     except UnreadableText as cause:
         raise NoText(job.text, cause) from cause
     if not found.passages:

@@ -43,20 +43,20 @@ def read_manuscript(
         return _of_book(path, wait)
     data = read_bytes(path)
     kind = reading.kind or kind_of(path.name, data)
-    return manuscript_of(data, kind, reading)
+    return manuscript_of(data, kind, reading, path.name)
 
 
 def manuscript_of(
-    data: bytes, kind: ManuscriptKind, reading: ReadingOptions
+    data: bytes, kind: ManuscriptKind, reading: ReadingOptions, name: str
 ) -> "Manuscript":
-    """The paragraphs of the bytes of a document or of a text; raises `UnreadableText`."""
+    """The paragraphs of the bytes of a document of some name or of a text; raises `UnreadableText`."""
     # imported here, since a text that is typed needs nothing of what reads documents
     from braildesk.desk.documents.reading import Manuscript, Part
 
     if kind.is_document:
         from braildesk.desk.documents.document import read_document
 
-        return read_document(data, kind, reading)
+        return read_document(data, kind, reading, name)
     texts = (text for each in passages(data, by_lines=False) for text in _texts(each))
     return Manuscript(kind, tuple(Part(text) for text in texts if text))
 
@@ -73,8 +73,8 @@ class Taken(Value):
     data: bytes = b""
 
 
-def taken(data: bytes, by_lines: bool, how: How) -> Taken:
-    """The paragraphs of the bytes of a document or of a text, as they are typed.
+def taken(data: bytes, by_lines: bool, how: How, name: str) -> Taken:
+    """The paragraphs of the bytes of a document of some name or of a text, as they are typed.
 
     Raises `UnreadableText`.
     """
@@ -87,7 +87,7 @@ def taken(data: bytes, by_lines: bool, how: How) -> Taken:
     # imported here, since a text needs nothing of what reads documents
     from braildesk.desk.documents.document import read_document
 
-    document = read_document(data, kind, how.reading)
+    document = read_document(data, kind, how.reading, name)
     document = replace(document, parts=replacer.parts(document.parts))
     return Taken(_passages_of(document, how.volumes), replacer.counts, document)
 

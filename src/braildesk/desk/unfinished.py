@@ -135,7 +135,7 @@ def _parts(note: ImportNote) -> tuple[tuple[Passage, ...], tuple[Passage, ...]]:
     if digest_of(data) != note.digest:
         raise NotSeen(note)
     try:
-        whole = taken(data, note.by_lines, note.how).passages
+        whole = taken(data, note.by_lines, note.how, note.name).passages
         before, rest = parted_at(whole, note.line)
     except UnreadableText as cause:
         raise NotSeen(note, cause) from cause

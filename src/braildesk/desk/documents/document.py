@@ -51,13 +51,17 @@ _WITH_FRONT = (ManuscriptKind.DOCX, ManuscriptKind.ODT, ManuscriptKind.MARKDOWN)
 
 
 def read_document(
-    data: bytes, kind: ManuscriptKind, reading: ReadingOptions = ReadingOptions()
+    data: bytes,
+    kind: ManuscriptKind,
+    reading: ReadingOptions = ReadingOptions(),
+    name: str = "",
 ) -> Manuscript:
-    """The manuscript that the bytes of a document are; raises `UnreadableText`."""
+    """The manuscript that the bytes of a document of some name are; raises `UnreadableText`."""
     if kind in _PACKED:
         data = repacked(data)
     if kind in (ManuscriptKind.RTF, ManuscriptKind.DOC):
-        return replace(_read_docx(pandoc.as_docx(data, kind), reading), kind=kind)
+        made = pandoc.as_docx(data, kind, name)
+        return replace(_read_docx(made, reading), kind=kind)
     if kind is ManuscriptKind.DOCX:
         return _read_docx(data, reading)
     if kind in (ManuscriptKind.MARKDOWN, ManuscriptKind.HTML):
@@ -65,11 +69,11 @@ def read_document(
         text = characters_of_page(data) if is_page else characters_of_text(data)
         data = pages.with_line_feeds(text).encode()
     if kind is ManuscriptKind.ODT:
-        return _read_odt(data, reading)
+        return _read_odt(data, reading, name)
     return _read(data, kind, contents.contents_of(data, kind), reading)
 
 
-def _read_odt(data: bytes, reading: ReadingOptions) -> Manuscript:
+def _read_odt(data: bytes, reading: ReadingOptions, name: str) -> Manuscript:
     """A text in ODT, by DOCX if fewer words are lost so."""
     numbered, losses = with_odt_numbers(data, reading.bullet, reading.brackets)
     own = replace(contents.contents_of(numbered, ManuscriptKind.ODT), numbers=losses)
@@ -77,7 +81,8 @@ def _read_odt(data: bytes, reading: ReadingOptions) -> Manuscript:
     if any(_lost(found)) and pandoc.office():
         # its numbers are those that LibreOffice gives it
         own = contents.contents_of(data, ManuscriptKind.ODT)
-        return min(found, _by_docx(data, own, reading, found), key=_lost)
+        otherwise = _by_docx(data, own, reading, name)
+        return min(found, otherwise or found, key=_lost)
     return found
 
 
@@ -92,14 +97,14 @@ def _read_docx(
 
 
 def _by_docx(
-    data: bytes, own: Contents, reading: ReadingOptions, otherwise: Manuscript
-) -> Manuscript:
-    """A document in ODT as it is read from the DOCX that LibreOffice makes of it."""
+    data: bytes, own: Contents, reading: ReadingOptions, name: str
+) -> Manuscript | None:
+    """A document in ODT as it is read from the DOCX that LibreOffice makes of it, if it does."""
     try:
-        made = pandoc.as_docx(data, ManuscriptKind.ODT)
+        made = pandoc.as_docx(data, ManuscriptKind.ODT, name)
         return replace(_read_docx(made, reading, own), kind=ManuscriptKind.ODT)
     except UnreadableText:
-        return otherwise
+        return None
 
 
 def _lost(manuscript: Manuscript) -> tuple[int, int]:

@@ -13,8 +13,11 @@ import subprocess
 import tempfile
 from collections.abc import Sequence
 from contextlib import suppress
-from pathlib import Path
+from io import BytesIO
+from pathlib import Path, PurePath
 from typing import IO, Any
+from xml.sax.saxutils import escape
+from zipfile import ZipFile
 
 from braildesk.confined import Limits, confined
 from braildesk.desk.documents.kinds import (
@@ -25,7 +28,11 @@ from braildesk.desk.documents.kinds import (
     NotConverted,
     Spent,
     WhyNot,
+    is_media,
+    part_of,
+    unpacked,
 )
+from braildesk.desk.documents.rtf_fields import as_shown
 from braildesk.desk.manuscript import UnreadableText
 
 #: How many seconds a program is waited for that has less than a hundredth of them of a processor: it waits for
@@ -104,14 +111,15 @@ def office() -> str | None:
     return next(filter(None, map(shutil.which, _OFFICE)), None)
 
 
-def as_docx(data: bytes, kind: ManuscriptKind) -> bytes:
-    """A document as LibreOffice writes it in DOCX."""
+def as_docx(data: bytes, kind: ManuscriptKind, name: str) -> bytes:
+    """A document as LibreOffice writes it in DOCX, with its name where fields show that."""
     program = office()
     if program is None:
         raise NoConverter(kind, "LibreOffice", "libreoffice-writer-nogui")
     with tempfile.TemporaryDirectory() as folder:
-        source = Path(folder, f"manuscript.{kind.value}")
-        source.write_bytes(data)
+        # no text has that name, nor the folder's
+        source = Path(folder, f"{Path(folder).name}.{kind.value}")
+        source.write_bytes(as_shown(data) if kind is ManuscriptKind.RTF else data)
         profile = Path(folder, "profile")
         settings = profile / "user" / "registrymodifications.xcu"
         settings.parent.mkdir(parents=True)
@@ -119,10 +127,35 @@ def as_docx(data: bytes, kind: ManuscriptKind) -> bytes:
         words = [program, f"-env:UserInstallation={profile.as_uri()}", "--headless"]
         words += ["--convert-to", "docx", "--outdir", f"{folder}/made", str(source)]
         _run("LibreOffice", words, None, _MOST_SECONDS)
-        try:
-            return Path(folder, "made", "manuscript.docx").read_bytes()
-        except FileNotFoundError as fault:
-            raise NotConverted("LibreOffice", "") from fault
+        made = next(Path(folder, "made").glob("*.docx"), None)
+        if made is None:
+            raise NotConverted("LibreOffice", "")
+        return _named(made.read_bytes(), source, name)
+
+
+def _named(data: bytes, source: Path, name: str) -> bytes:
+    """A document in DOCX that has the name of another file in place of that from which it was made."""
+    shown = "".join(sign if sign.isprintable() else "\ufffd" for sign in name)
+    names = {
+        f"{source.parent.as_uri()}/": "",
+        f"{source.parent}/": "",
+        source.name: shown,
+        source.stem: PurePath(shown).stem,
+    }
+    with unpacked(data) as container:
+        parts = {
+            each: b"" if is_media(each) else part_of(container, each)
+            for each in container.namelist()
+        }
+    if not any(source.stem.encode() in part for part in parts.values()):
+        return data
+    made = BytesIO()
+    with ZipFile(made, "w") as other:
+        for key, part in parts.items():
+            for found, own in names.items():
+                part = part.replace(escape(found).encode(), escape(own).encode())
+            other.writestr(key, part)
+    return made.getvalue()
 
 
 def _run(
