@@ -1489,6 +1489,11 @@ def test_a_field_with_the_name_of_a_document_has_that_and_not_that_of_its_copy(
             r'{\*\fldinsx{includepicture "/a/b.png" \\d}}',
         ),
         (r"\\\\{\*\fldinst DATE}", r"\\\\{\*\fldinsx DATE}"),
+        (r'{\*\fldinst "DATE"}', r'{\*\fldinsx "DATE"}'),
+        (
+            rf"{{\*\fldinst {' ' * 3_000}DATE}}",
+            rf"{{\*\fldinsx {' ' * 3_000}DATE}}",
+        ),
         # what LibreOffice knows better than the text, and print
         (r"{\*\fldinst HYPERLINK DATE}", r"{\*\fldinst HYPERLINK DATE}"),
         (r"{\*\fldinst SYMBOL 183}", r"{\*\fldinst SYMBOL 183}"),

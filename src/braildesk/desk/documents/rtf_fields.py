@@ -8,12 +8,12 @@ import re
 
 #: Where the code of a field begins, and what is no text of it.
 _CODE = re.compile(rb"(?<!\\)((?:\\\\)*+)(?:\\\*\s*)?\\fldinst(?![a-zA-Z])")
-_NO_TEXT = re.compile(rb"\\\*|\\[a-zA-Z]+(?:-?[0-9]+)? ?|[{}\r\n]")
+_NO_TEXT = re.compile(rb"\\\*|\\[a-zA-Z]+(?:-?[0-9]+)? ?|[{}\"\r\n]")
 #: What begins or ends a group, and what only looks so.
 _GROUPS = re.compile(rb"\\.|[{}]", re.DOTALL)
 _NAME = re.compile(rb"[A-Za-z]*")
 #: How much of a code has the name of its field.
-_FRONT = 500
+_FRONT = 2_000
 #: The code of a field that no program knows, and passes over.
 _UNKNOWN = rb"\1\\*\\fldinsx"
 _WORKED_OUT = frozenset(
@@ -29,17 +29,22 @@ def as_shown(data: bytes) -> bytes:
 
 
 def _kept(code: re.Match[bytes]) -> bytes:
-    text = _NO_TEXT.sub(b"", _front(code.string, code.end()))
-    name = _NAME.match(text.lstrip())
-    is_worked_out = name is not None and name[0].upper() in _WORKED_OUT
-    return code.expand(_UNKNOWN) if is_worked_out else code[0]
+    front, is_whole = _front(code.string, code.end())
+    text = _NO_TEXT.sub(b"", front).lstrip()
+    name = _NAME.match(text)
+    assert name is not None
+    # LibreOffice knows one too that begins later on
+    is_known = is_whole or name.end() < len(text)
+    if is_known and name[0].upper() not in _WORKED_OUT:
+        return code[0]
+    return code.expand(_UNKNOWN)
 
 
-def _front(data: bytes, start: int) -> bytes:
-    """The front of the code of a field, which goes on to the end of its group."""
+def _front(data: bytes, start: int) -> tuple[bytes, bool]:
+    """The front of the code of a field, and whether it is all of it, up to the end of its group."""
     depth = 0
     for found in _GROUPS.finditer(data, start, start + _FRONT):
         depth += (found[0] == b"{") - (found[0] == b"}")
         if depth < 0:
-            return data[start : found.start()]
-    return data[start : start + _FRONT]
+            return data[start : found.start()], True
+    return data[start : start + _FRONT], False
