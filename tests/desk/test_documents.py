@@ -1792,8 +1792,39 @@ def test_quotations_on_a_page_have_their_marks_whatever_ends_them() -> None:
     found = read_document(page.encode(), ManuscriptKind.HTML)
     assert " ".join(found.texts) == (
         "He \u201csaid \u2018go\u2019\u201d She \u201csaid \u2018no\u2019\u201d"
-        " They \u201cleft\u201d \u201c At once\u201d or not"
+        " They \u201cleft\u201d \u201cAt once\u201d or not"
     )
+    assert found.missing == ()
+
+
+@pytest.mark.parametrize(
+    "body, texts",
+    [
+        ("<q><p>One</p><p>Two</p></q><p>on", ["\u201cOne", "Two\u201d", "on"]),
+        ("<div><q>\n<div>One\n</div></q></div>on", ["\u201cOne\u201d", "on"]),
+        (
+            "<blockquote><q><p>&#79;ne <q>t<b>w</b>&ouml;</q></p><ul><li>On</li></ul></q></blockquote>",
+            ["\u201cOne \u2018tw\u00f6\u2019", "\u2022 On\u201d"],
+        ),
+        ("<p>He <q>said<p>One</p>two</q>", ["He \u201csaid\u201d", "One", "two"]),
+        (
+            "<q><p>One<p>Two <q>three<p>on</q>",
+            ["\u201cOne", "Two \u2018three\u2019", "on\u201d"],
+        ),
+        ("<p>One <q><b>two</b></q> <q></q>", ["One \u201ctwo\u201d \u201c\u201d"]),
+        (
+            "<q><p>&nbsp;</p><p><img alt=A></p><p><br></p></q>on",
+            ["\u201c[A]\u201d", "on"],
+        ),
+        ("<template><q>One</template><p>on</q>", ["on"]),
+    ],
+)
+def test_a_quotation_of_paragraphs_has_its_marks_beside_its_words(
+    body: str, texts: list[str]
+) -> None:
+    page = f"<html><body>{body}</body></html>"
+    found = read_document(page.encode(), ManuscriptKind.HTML)
+    assert found.texts == texts
     assert found.missing == ()
 
 

@@ -28,6 +28,7 @@ from braildesk.desk.documents.markup import (
     field_words,
 )
 from braildesk.desk.documents.package import Package
+from braildesk.desk.documents.quotations import QUOTATION, Quotations
 from braildesk.desk.documents.reading import whole
 from braildesk.desk.documents.table_places import Places, TableSize
 from braildesk.desk.manuscript import UnreadableText
@@ -44,9 +45,6 @@ _WRITTEN = {
     **dict.fromkeys(("aside", "figure", "figcaption"), "div"),
     **dict.fromkeys(("dfn", "kbd", "mark", "q"), "span"),
 }
-#: What shows its marks, and these: of one within another they are other ones.
-_QUOTATION = "q"
-_MARKS = (("\u201c", "\u201d"), ("\u2018", "\u2019"))
 #: What says how wide columns are, after which pandoc leaves out cells of columns that it doesn't name.
 _COLUMNS = frozenset({"col", "colgroup"})
 #: The parts of a table, by how deep they are in it.
@@ -134,8 +132,7 @@ class _Rewriting(Tags):
         self._tables: list[list[str]] = []
         self._sizes: list[TableSize] = []
         self._places = places
-        #: How many quotations are open.
-        self._quotations = 0
+        self._quotations = Quotations(self._pieces, self._put)
         #: Where the templates begin that are open.
         self._templates: list[int] = []
 
@@ -143,6 +140,7 @@ class _Rewriting(Tags):
         """The page as it is written anew."""
         self.feed(self._page)
         self.close()
+        self._quotations.end_all(len(self._page))
         end = ")" * self._is_in_reading
         return "".join((*self._pieces, self._page[self._done :], end))
 
@@ -150,6 +148,8 @@ class _Rewriting(Tags):
         if tag == _TEMPLATE:
             self._templates.append(self._start())
         self._end_block(tag)
+        if tag in BLOCKS and not self._templates:
+            self._quotations.begin_block(tag, self._start())
         self._is_in_lines |= tag == _LINES
         self._begin_part(tag)
         self._measure(tag, dict(attrs))
@@ -158,10 +158,10 @@ class _Rewriting(Tags):
         after = ""
         if tag in ("p", "dt") and (name := dict(attrs).get("id")):
             after = f'<span id="{escape(name)}"></span>'
-        if tag == _QUOTATION:
-            after = _MARKS[self._quotations % 2][0]
-            self._quotations += 1
         self._rewrite(tag, attrs, after + self._before_reading(tag))
+        if tag == QUOTATION and not self._templates:
+            stop = self._start() + len(self.get_starttag_text() or "")
+            self._quotations.begin(stop)
 
     def handle_startendtag(self, tag: str, attrs: list[tuple[str, str | None]]) -> None:
         self._rewrite(tag, attrs, "")
@@ -177,9 +177,10 @@ class _Rewriting(Tags):
         stop = self._page.find(">", start) + 1 or len(self._page)
         if tag in PARTED:
             self._put(start, start, " ")
-        # a block ends those that nothing ended in it
-        for _ in range(self._quotations if tag in BLOCKS else tag == _QUOTATION):
-            self._end_quotation()
+        if tag == QUOTATION and not self._templates:
+            self._quotations.end(start)
+        elif tag in BLOCKS and not self._templates:
+            self._quotations.end_block(tag, start)
         if tag in _WRITTEN:
             name = start + len("</")
             self._put(name, name + len(tag), _WRITTEN[tag])
@@ -188,10 +189,24 @@ class _Rewriting(Tags):
         elif tag == _TEMPLATE and self._templates:
             self._put(self._templates.pop(), stop, "")
 
-    def _end_quotation(self) -> None:
-        if self._quotations:
-            self._quotations -= 1
-            self._put(self._start(), self._start(), _MARKS[self._quotations % 2][1])
+    def handle_data(self, data: str) -> None:
+        if data.strip():
+            front = self._start() + len(data) - len(data.lstrip())
+            self._show(front, front + len(data.strip()))
+
+    def handle_charref(self, name: str) -> None:
+        self._show(self._start(), self._start() + len(f"&#{name}"))
+
+    def handle_entityref(self, name: str) -> None:
+        if name != "nbsp":
+            self._show(self._start(), self._start() + len(f"&{name}"))
+
+    def _show(self, start: int, stop: int) -> None:
+        """Notes a part of the page that is print, with the sign at its end."""
+        if self._quotations.are_open and not self._templates:
+            is_sign = self._page.startswith("&", start)
+            stop += is_sign and self._page.startswith(";", stop)
+            self._quotations.show(start, stop)
 
     def _begin_part(self, tag: str) -> None:
         """Ends the parts of a table that end where another begins, and notes that one."""
@@ -262,6 +277,11 @@ class _Rewriting(Tags):
         self, tag: str, attrs: list[tuple[str, str | None]], after: str
     ) -> None:
         found = written = self.get_starttag_text() or ""
+        start = self._start()
+        words = field_words(tag, dict(attrs))
+        is_print = words or tag == "img" and dict(attrs).get("alt")
+        if is_print:
+            self._show(start, start)
         if tag in _WRITTEN:
             written = f"<{_WRITTEN[tag]}{written[1 + len(tag) :]}"
         if tag in _COLUMNS:
@@ -269,7 +289,7 @@ class _Rewriting(Tags):
         if tag in _CELLS and "colspan" in dict(attrs):
             # as it was counted, however it is written; the blank parts it from what comes after it
             written = _WIDTH.sub(f"colspan={_width(dict(attrs))} ", written)
-        if words := field_words(tag, dict(attrs)):
+        if words:
             written = f" {escape(words)} "
         if tag == "img" and "src" not in dict(attrs):
             # it has its address elsewhere, or shows its description, or nothing
@@ -281,8 +301,9 @@ class _Rewriting(Tags):
             if tag == "a":
                 written = _FOLDERS.sub(self._without_folders, written)
         if after or written != found:
-            start = self._start()
             self._put(start, start + len(found), written + after)
+        if is_print:
+            self._show(start + len(found), start + len(found))
 
     def _without_folders(self, link: re.Match[str]) -> str:
         # of two pages with one name it would lead to the first
