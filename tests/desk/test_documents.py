@@ -1084,14 +1084,34 @@ def test_words_of_an_odt_that_stand_apart_are_no_part_of_others(
     # which would type some of them
     monkeypatch.setattr(pandoc, "office", lambda: None)
     picture = "<svg:title>A</svg:title><svg:desc>crater</svg:desc>"
-    ruby = "<text:ruby-base>\u6f22</text:ruby-base><text:ruby-text>kan</text:ruby-text>"
     text = (
         f"<text:p>On<draw:frame>{picture}</draw:frame> or near<draw:frame>{picture}</draw:frame>"
-        f" the Moon <text:ruby>{ruby}</text:ruby></text:p>"
+        " the Moon</text:p>"
     )
     found = read_manuscript(odt(tmp_path / "a.odt", text))
     words = [*"".join(found.texts).split(), *(each.words for each in found.missing)]
-    assert " ".join(words) == "On or near the Moon A crater A crater \u6f22 kan"
+    assert " ".join(words) == "On or near the Moon A crater A crater"
+
+
+def test_readings_of_characters_in_an_odt_are_typed_in_brackets(
+    tmp_path: Path, monkeypatch: pytest.MonkeyPatch
+) -> None:
+    # which would type them too
+    monkeypatch.setattr(pandoc, "office", lambda: None)
+
+    def ruby(base: str, reading: str) -> str:
+        its = f"<text:ruby-base>{base}</text:ruby-base>{reading}"
+        return f'<text:ruby text:style-name="Ru1">{its}</text:ruby>'
+
+    reading = '<text:ruby-text text:style-name="T1">{}</text:ruby-text>'
+    bold = ruby("<text:span>a &amp; b</text:span>", reading.format(" c &lt; d "))
+    text = (
+        f"<text:p>One {ruby('kan', reading.format('ji'))}{ruby('far', reading.format(''))}"
+        f" {bold}, two</text:p><text:h>{ruby('near', '')}</text:h>"
+    )
+    found = read_manuscript(odt(tmp_path / "a.odt", text))
+    assert found.texts == ["One kan(ji)far a & b(c < d), two", "near"]
+    assert found.missing == ()
 
 
 def test_words_of_an_odt_that_a_condition_hides_are_missing(tmp_path: Path) -> None:

@@ -34,6 +34,9 @@ _ALONE = f"{_TEXT}numbered-paragraph"
 #: What stands around paragraphs and isn't left: lists, once their items have their numbers, and sections,
 #: whose text pandoc leaves out.
 _AROUND = frozenset({_LIST, *_ITEMS, _ALONE, f"{_TEXT}section"})
+#: What stands around characters, of which pandoc leaves out those that have a reading.
+_AROUND_CHARACTERS = frozenset({f"{_TEXT}ruby", f"{_TEXT}ruby-base"})
+_READING = f"{_TEXT}ruby-text"
 _DELETED, _NOTE = f"{_TEXT}tracked-changes", f"{_TEXT}note-body"
 _WHOLE_NOTE, _NOTE_AGAIN = f"{_TEXT}note", f"{_TEXT}note-ref"
 #: What a text computes, and shows as it was last, which pandoc leaves out, with places to be filled in, whose
@@ -82,10 +85,10 @@ def with_odt_numbers(
     """A text without lists, whose paragraphs begin with their numbers; and those not as in print, with
     the cells that go on over rows.
 
-    Further numbers of a note are text, in brackets, and so are fields, as they are shown; styles of words
-    have the emphasis of those that they are based on, and formulas are where pandoc looks for them. Its
-    tables have no heads, and a place for each cell that goes on. It has no pictures any more, which aren't
-    looked at. Raises `NoDocument`.
+    Further numbers of a note are text, in brackets, as readings of characters are, and so are fields, as
+    they are shown; styles of words have the emphasis of those that they are based on, and formulas are where
+    pandoc looks for them. Its tables have no heads, and a place for each cell that goes on. It has no pictures
+    any more, which aren't looked at. Raises `NoDocument`.
     """
     made = BytesIO()
     with unpacked(data) as container, ZipFile(made, "w") as other:
@@ -101,7 +104,7 @@ def with_odt_numbers(
         spans = tables_of_odt.Spans(root)
         words = Styles("text", styles, root)
         replaced = words.written(root) | _notes_again(root, brackets) | _fields(root)
-        replaced |= _objects(root)
+        replaced |= _objects(root) | _readings(root)
 
         def front_of(name: str) -> str:
             return escape(next(labels)) if name in (_PARAGRAPH, _HEADING) else ""
@@ -137,7 +140,7 @@ def _rewritten(
     how = Rewriting(
         front_of,
         ahead_of,
-        _AROUND | tables_of_odt.AROUND_ROWS,
+        _AROUND | _AROUND_CHARACTERS | tables_of_odt.AROUND_ROWS,
         # pandoc leaves covered cells out in a time that grows faster than their number
         lambda name, _: found in replaced or name == tables_of_odt.COVERED,
         prefixes=tables_of_odt.PREFIXES,
@@ -152,6 +155,16 @@ def _fields(root: Element) -> dict[int, str]:
         for each in root.iter()
         if each.tag in _FIELDS and not len(each)
         if each.get(f"{_TEXT}display") != "none"
+    }
+
+
+def _readings(root: Element) -> dict[int, str]:
+    """What stands in place of each reading of characters, by its identity: it in brackets."""
+    readings = {
+        id(each): plain("".join(each.itertext())) for each in root.iter(_READING)
+    }
+    return {
+        each: f"({escape(text)})" if text else "" for each, text in readings.items()
     }
 
 
