@@ -126,6 +126,74 @@ CASES = (
         ("Far[1] or near[*].", "[1: Very.]", "[*: Quite.]", "2. Two", "3. Three"),
     ),
     Case(
+        "MediaWiki, with a note that has a note and one to which two numbers lead",
+        '<p>Far<sup id="w-r1" class="reference"><a href="#w-n1"><span>[</span>note 1<span>]</span>'
+        '</a></sup> or<sup id="w-r2-0" class="reference"><a href="#w-n2">[1]</a></sup> near'
+        '<sup id="w-r2-1" class="reference"><a href="#w-n2">[1]</a></sup>.</p><p>After it.</p>'
+        '<ol class="references"><li id="w-n1"><span><b><a href="#w-r1">^</a></b></span> <span>Very'
+        '<sup id="w-r3"><a href="#w-n3">[2]</a></sup>.</span></li></ol><ol class="references">'
+        '<li id="w-n2"><span>^ <a href="#w-r2-0"><i><b>a</b></i></a> <a href="#w-r2-1">'
+        "<i><b>b</b></i></a></span> <span>Quite.</span></li>"
+        '<li id="w-n3"><b><a href="#w-r3">^</a></b> Indeed.</li><li id="w-n4">So.</li></ol>',
+        (
+            "Far[note 1] or[1] near[1].",
+            "[note 1: Very[2].]",
+            "[1: ^ a b Quite.]",
+            "[2: Indeed.]",
+            "After it.",
+            "3. So.",
+        ),
+    ),
+    Case(
+        "GitHub",
+        '<p>Far<sup><a href="#user-content-fn-1-ab" id="user-content-fnref-1-ab"'
+        ' data-footnote-ref="" aria-describedby="footnote-label">1</a></sup>.</p><p>After it.</p>'
+        '<section data-footnotes="" class="footnotes"><ol dir="auto"><li id="user-content-fn-1-ab">'
+        '<p>Very. <a href="#user-content-fnref-1-ab" data-footnote-backref="" class='
+        '"data-footnote-backref" aria-label="Back to reference 1">\u21a9</a></p></li></ol></section>',
+        ("Far[1].", "[1: Very.]", "After it."),
+    ),
+    Case(
+        "WordPress, older and newer",
+        '<p>Far<sup id="fnref-12-1"><a href="#fn-12-1" class="jetpack-footnote" title="Read'
+        ' footnote.">1</a></sup>, near<sup data-fn="u-7" class="fn"><a href="#u-7" id="u-7-link">2'
+        '</a></sup>.</p><p>After it.</p><div class="footnotes"><hr><ol><li id="fn-12-1">Very. '
+        '<a href="#fnref-12-1" title="Return">\u21a9</a></li></ol></div><ol class="wp-block-footnotes">'
+        '<li id="u-7"><p>Quite.</p><p>So. <a href="#u-7-link">\u21a9\ufe0e</a></p></li></ol>',
+        ("Far[1], near[2].", "[1: Very.]", "[2: Quite. So.]", "After it."),
+    ),
+    Case(
+        "Pressbooks and Substack",
+        '<p>Far<a id="return-footnote-9-1" href="#footnote-9-1"><sup>[1]</sup></a>, near<a id='
+        '"footnote-anchor-2" href="#footnote-2" class="footnote-anchor">2</a>.</p><p>After it.</p>'
+        '<div><div id="footnote-9-1">Very. <a href="#return-footnote-9-1">\u21b5</a></div></div>'
+        '<div class="footnote"><a id="footnote-2" href="#footnote-anchor-2" class='
+        '"footnote-number">2</a><div class="footnote-content"><p>Quite.</p><p>So.</p></div></div>',
+        ("Far[1], near[2].", "[1: Very.]", "[2: Quite. So.]", "After it."),
+    ),
+    Case(
+        "a note that leads to itself by another",
+        '<p>Far<sup><a id="l1" href="#o1">1</a></sup>.</p><p>After it.</p><p id="o1">Very<sup>'
+        '<a id="l2" href="#o2">2</a></sup>. <a href="#l1">\u21a9</a></p><p id="o2">Quite '
+        '<a href="#o1">1</a>. <a href="#l2">\u21a9</a></p>',
+        ("Far[1].", "[1: Very[2].]", "[2: Quite 1.]", "After it."),
+    ),
+    Case(
+        "parts that lead back to the words before them",
+        '<p id="v1">The <a href="#v2">Moon</a> and <a href="#v3">2</a>.</p><p id="v2">Moon: far.'
+        ' <a href="#v1">\u21a9</a></p><div id="v3"><h2>Two</h2><p>Far. <a href="#v1">\u21a9</a></p>'
+        "</div>",
+        ("The Moon and 2.", "Moon: far. \u21a9", "Two", "Far. \u21a9"),
+    ),
+    Case(
+        "notes that nothing but notes lead to, and chapters that lead back to their list",
+        '<p id="g">Chapters: <a href="#g1">1</a> or <a href="#g2">2</a>.</p><div id="g1"><p>Far.'
+        ' <a href="#g">Top</a></p></div><div id="g2"><p>Near. <a href="#g">Top</a></p></div>'
+        '<p id="h1">One<a id="h3" class="noteref" href="#h2">7</a>.</p><p id="h2">Two<a id="h4"'
+        ' class="noteref" href="#h1">8</a>.</p>',
+        ("Chapters: 1 or 2.", "Far. Top", "Near. Top", "One7.", "Two8."),
+    ),
+    Case(
         "numbers that lead to parts of the book",
         '<p>See <a href="#c1">1</a> and <a href="#c2">2</a>.</p>'
         '<p id="c1">1 moon</p><div id="c2"><p><a href="#c1">2</a> moons</p><h2>A part</h2></div>'
@@ -167,6 +235,20 @@ def test_no_word_of_the_notes_is_lost_and_a_note_that_is_not_there_is_noted(
         "Far[7]."
     ]
     assert all(each.what is not LossKind.SUPERSCRIPT for each in found.losses)
+
+
+def test_links_of_a_saved_page_that_lead_to_it_by_its_address_lead_to_its_notes() -> (
+    None
+):
+    page = (
+        "<!DOCTYPE html>\n<!-- saved from url=(0022)https://a.example/x?y#z -->\n<html>"
+        '<p>Far<sup><a id="m1" href="https://a.example/x?y#n1">1</a></sup>. <a'
+        ' href="https://a.example/x#n1">More</a>.</p><p>After it.</p><ol><li id="n1">Very. <a'
+        " href='https://a.example/x?y#m1'>\u21a9</a></li></ol></html>"
+    )
+    found = read_document(page.encode(), ManuscriptKind.HTML)
+    assert found.texts == ["Far[1]. More.", "[1: Very.]", "After it."]
+    assert [each.words for each in found.losses] == ["More"]
 
 
 def test_the_number_of_a_note_is_no_part_of_the_word_before_it() -> None:

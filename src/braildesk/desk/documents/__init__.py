@@ -6,7 +6,7 @@ gets it, `numbers` writes the numbers that Word shows into a DOCX, `word_print` 
 `tables_of_odt` keeps the places of cells, `table_places` counts those in which none begins, as
 `markdown_tables` does, `package` has the pages of an EPUB, `pages` keeps the names of their links
 and `quotations` their marks, `markdown_notes` those of notes, and `markdown_front` has one front alone for one;
-before LibreOffice does, `rtf_fields` keeps results of fields. `tree` makes paragraphs of what pandoc gives, with the notes that
-`notes` finds and the tags that `raw_html` does, and `contents` has all words of the file, to be
-compared with them.
+before LibreOffice does, `rtf_fields` keeps results of fields. `tree` makes paragraphs of what pandoc gives, with
+the notes that `notes` and `ways_back` find, and `nodes` has the words of that, and with the tags that
+`raw_html` does; `contents` has all words of the file, to be compared with them.
 """

@@ -9,7 +9,7 @@ from collections.abc import Iterator, Sequence
 from html import unescape
 from typing import Any
 
-from braildesk.desk.documents.notes import nodes, texts
+from braildesk.desk.documents.nodes import nodes, texts
 from braildesk.desk.documents.reading import Loss, LossKind, plain
 from braildesk.desk.documents.tree import Node
 

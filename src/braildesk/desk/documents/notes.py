@@ -1,17 +1,26 @@
 """Notes of pages of HTML, which are links to paragraphs elsewhere, made notes of the tree.
 
 A link is the number of a note if it is said to be one (by its class or role), or if it has nothing
-but a number or a sign and leads to a later paragraph that begins with a link of the same. The paragraphs
-of the note are taken from where they stand, without their number and the link back; Texinfo puts them
+but a number or a sign and leads to a later paragraph that begins with a link of the same, or that leads
+back to it. The paragraphs of the note are taken from where they stand, without their number and the link back; Texinfo puts them
 below a heading that is the number. Of a number whose note isn't found, that is noted.
 """
 
 import re
-from collections.abc import Iterable, Iterator, Sequence
+from collections.abc import Collection, Iterable, Iterator, Mapping, Sequence
 from dataclasses import dataclass
 from typing import Any
 
+from braildesk.desk.documents.nodes import (
+    MARKS,
+    label_of,
+    name_of,
+    nodes,
+    target_of,
+    texts,
+)
 from braildesk.desk.documents.tree import UNKNOWN_NOTE, Node
+from braildesk.desk.documents.ways_back import WaysBack, is_bare, reached
 
 _NUMBERS = frozenset(
     "footnote-ref footnote-reference footnote noteref doc-noteref endnote-ref fnref fnanchor"
@@ -29,9 +38,6 @@ _NOTES = frozenset(
 #: What names a division that is one note, as Word and LibreOffice write them.
 _NOTE_NAME = re.compile("(ftn|edn|sdfootnote|sdendnote)[0-9]+")
 _HEAD_NAME = re.compile("(.*[^A-Za-z])?FOOT[0-9]+")
-#: What a link has that is the number of a note though nothing says so.
-_BARE = re.compile(r"\d{1,4}|[*†‡§]{1,4}")
-_MARKS = " \u00a0[](){}"
 #: How many pieces of text a number at the front of a note has at most, with its brackets.
 _PIECES = 6
 
@@ -49,35 +55,83 @@ def with_notes(tree: Node) -> Node:
     """The tree with each link that is the number of a note made that note."""
     blocks = _headed(tree["blocks"])
     links = [(n, node) for n, node in enumerate(nodes(blocks)) if _is_inner(node)]
-    wanted = {_target(link) for _, link in links}
+    wanted = {target_of(link) for _, link in links}
     asides = [node for node in nodes(blocks) if _is_aside(node)]
     if not wanted and not asides:
         return tree
     places = dict(_places(blocks, wanted))
-    order = {name: n for n, each in enumerate(nodes(blocks)) if (name := _name(each))}
-    numbers = {
-        id(link)
+    numbers = _numbers(blocks, links, places)
+    taken = {id(places[name].part) for name in numbers.values() if name in places}
+    named = {name: _aside(each) for each in asides if (name := name_of(each))}
+    taking = _Taking(places, numbers.keys(), taken, named)
+    return {**tree, "blocks": taking.whole(blocks)}
+
+
+def _numbers(
+    blocks: list[Node], links: Sequence[tuple[int, Node]], places: dict[str, _Place]
+) -> dict[int, str]:
+    """The names of the notes to which numbers lead, by the identities of these."""
+    order = {name: n for n, each in enumerate(nodes(blocks)) if (name := name_of(each))}
+    ways = WaysBack(blocks, {id(place.part) for place in places.values()})
+    later = {
+        id(link): target_of(link)
         for n, link in links
-        if _is_number(link) or _is_bare_number(link, n, places, order)
+        if target_of(link) in places and order[target_of(link)] > n
     }
-    taken = {
-        id(places[target].part)
+    found = {
+        id(link): target_of(link)
         for _, link in links
-        if id(link) in numbers and (target := _target(link)) in places
+        if _is_number(link)
+        or id(link) in later
+        and (
+            _is_bare_number(link, places)
+            or ways.lead_to(link, places[target_of(link)].part)
+        )
     }
-    named = {name: _aside(each) for each in asides if (name := _name(each))}
-    return {**tree, "blocks": _Taking(places, numbers, taken, named).of(blocks)}
+    labels = {
+        (target_of(link), label_of(link)) for _, link in links if id(link) in found
+    }
+    for _, link in links:
+        is_known = (target_of(link), label_of(link)) in labels
+        if id(link) in later and is_known and ways.is_marked(link):
+            found[id(link)] = target_of(link)
+    return _without_ways_back(found, ways, places)
+
+
+def _without_ways_back(
+    numbers: dict[int, str], ways: WaysBack, places: Mapping[str, _Place]
+) -> dict[int, str]:
+    """Those numbers that don't lead from a note to the text that has its number, and aren't in notes to which
+    nothing leads but such notes."""
+    leading = {
+        each: id(places[name].part) for each, name in numbers.items() if name in places
+    }
+    around = ways.containers(numbers, {*leading.values()})
+    texts_of: dict[int, set[int]] = {}
+    for each, part in leading.items():
+        texts_of.setdefault(part, set()).add(ways.text_of(each))
+    kept = {
+        each: name
+        for each, name in numbers.items()
+        if ways.text_with(name) not in texts_of.get(around.get(each, 0), ())
+    }
+    parts = reached({each: leading[each] for each in kept if each in leading}, around)
+    return {
+        each: name
+        for each, name in kept.items()
+        if name not in places or id(places[name].part) in parts
+    }
 
 
 def _headed(blocks: list[Node]) -> Any:
     """Some blocks in which each note that stands below a heading that is its number is a division."""
     links = [node for node in nodes(blocks) if _is_inner(node)]
-    pairs = {(_name(link), _target(link)) for link in links}
+    pairs = {(name_of(link), target_of(link)) for link in links}
     # such a number and that of the text lead to each other
     heads = {
         id(node)
         for node in nodes(blocks)
-        if (link := _lone_link(node)) and (_target(link), _name(link)) in pairs
+        if (link := _lone_link(node)) and (target_of(link), name_of(link)) in pairs
     }
     return _divided(blocks, heads) if heads else blocks
 
@@ -90,7 +144,7 @@ def _lone_link(block: Node) -> Node | None:
     found = [each for each in inlines if each["t"] not in ("Space", "SoftBreak")]
     # the number of a part may lead back to the contents too
     is_lone = len(found) == 1 and _is_inner(found[0])
-    return found[0] if is_lone and _HEAD_NAME.fullmatch(_name(found[0])) else None
+    return found[0] if is_lone and _HEAD_NAME.fullmatch(name_of(found[0])) else None
 
 
 def _divided(value: Any, heads: set[int]) -> Any:
@@ -104,7 +158,7 @@ def _divided(value: Any, heads: set[int]) -> Any:
     for each in value:
         if id(each) in heads and (link := _lone_link(each)):
             below = [{"t": "Plain", "c": [link]}]
-            divided.append({"t": "Div", "c": [[_name(link), [], []], below]})
+            divided.append({"t": "Div", "c": [[name_of(link), [], []], below]})
             continue
         if isinstance(each, dict) and each.get("t") in ("Header", "HorizontalRule"):
             below = divided
@@ -129,38 +183,16 @@ def _is_number(link: Node) -> bool:
     return not _NUMBERS.isdisjoint(_said_of(link))
 
 
-def _is_bare_number(
-    link: Node, position: int, places: dict[str, _Place], order: dict[str, int]
-) -> bool:
+def _is_bare_number(link: Node, places: Mapping[str, _Place]) -> bool:
     """Whether a link is a note's number by what it has and what it leads to."""
-    label, target = _label(link), _target(link)
-    if not _BARE.fullmatch(label) or target not in places:
-        return False
-    first = next(_links(places[target].front), None)
-    return order[target] > position and first is not None and _label(first) == label
+    label = label_of(link)
+    first = next(_links(places[target_of(link)].front), None)
+    return is_bare(label) and first is not None and label_of(first) == label
 
 
 def _is_aside(node: Node) -> bool:
     """Whether a node is a note that stands in the line itself, as AsciiDoc has it."""
     return node.get("t") == "Span" and "footnote" in node["c"][0][1]
-
-
-def _target(link: Node) -> str:
-    target: str = link["c"][2][0]
-    return target.removeprefix("#")
-
-
-def _name(node: Node) -> str:
-    """The name by which links lead to a node; nothing if it has none."""
-    if node.get("t") not in ("Div", "Span", "Link"):
-        return ""
-    name: str = node["c"][0][0]
-    return name
-
-
-def _label(link: Node) -> str:
-    """The number of a note as it is written, without what stands around it."""
-    return "".join(texts(link["c"][1])).strip(_MARKS)
 
 
 def _said_of(node: Node) -> Iterator[str]:
@@ -170,18 +202,6 @@ def _said_of(node: Node) -> Iterator[str]:
     for name, value in pairs:
         if name in ("role", "type", "epub:type"):
             yield from value.split()
-
-
-def nodes(value: Any) -> Iterator[Node]:
-    """All nodes of a tree, from its front on."""
-    waiting = [value]
-    while waiting:
-        found = waiting.pop()
-        if isinstance(found, dict):
-            yield found
-            waiting.append(found.get("c"))
-        elif isinstance(found, list):
-            waiting.extend(reversed(found))
 
 
 def _links(inlines: Sequence[Node]) -> Iterator[Node]:
@@ -196,21 +216,7 @@ def _links(inlines: Sequence[Node]) -> Iterator[Node]:
 def _is_word(node: Node) -> bool:
     """Whether a node is text that is more than a bracket."""
     is_text = node.get("t") in ("Str", "Code", "Math", "Image")
-    return is_text and bool("".join(texts(node)).strip(_MARKS))
-
-
-def texts(value: Any) -> Iterator[str]:
-    """The words of a part of the tree, in which a picture is a sign."""
-    for node in nodes(value):
-        match node.get("t"):
-            case "Str":
-                yield node["c"]
-            case "Code" | "Math" | "RawInline":
-                yield node["c"][1]
-            case "Space" | "SoftBreak" | "LineBreak":
-                yield " "
-            case "Image":
-                yield "\ufffc"
+    return is_text and bool("".join(texts(node)).strip(MARKS))
 
 
 def _places(blocks: Sequence[Node], wanted: set[str]) -> Iterator[tuple[str, _Place]]:
@@ -251,7 +257,7 @@ def _division(node: Node, wanted: set[str]) -> Iterator[tuple[str, _Place]]:
 def _named(wanted: set[str], place: _Place) -> Iterator[tuple[str, _Place]]:
     """A place by each name that stands at its front."""
     for node in nodes(place.front):
-        if (name := _name(node)) in wanted and name:
+        if (name := name_of(node)) in wanted and name:
             yield name, place
         if _is_word(node):
             return
@@ -275,14 +281,30 @@ class _Taking:
     def __init__(
         self,
         places: dict[str, _Place],
-        numbers: set[int],
+        numbers: Collection[int],
         taken: set[int],
         asides: dict[str, Node],
     ) -> None:
+        #: The blocks of each note, and the numbers whose notes have none yet.
+        self._blocks: dict[str, list[Node]] = {}
+        self._waiting: list[tuple[str, str]] = []
         self._places = places
         self._numbers = numbers
         self._taken = taken
         self._asides = asides
+
+    def whole(self, blocks: list[Node]) -> Any:
+        """All blocks, with those of the notes in which there are numbers too."""
+        found = self.of(blocks)
+        while self._waiting:
+            name, label = self._waiting.pop()
+            place = self._places[name]
+            # what is taken from its place is there alone
+            is_part = [id(each) for each in place.blocks] == [id(place.part)]
+            its = [self.of(place.part)] if is_part else self.of(place.blocks)
+            its = _without_number(its, name, label)
+            self._blocks[name] += _without_back(its)
+        return found
 
     def of(self, value: Any) -> Any:
         """A part of the tree without the notes that were taken from it, and with those put there."""
@@ -338,25 +360,28 @@ class _Taking:
 
     def _note(self, link: Node) -> Node:
         """What stands in place of a number: the note, or the number if that isn't found."""
-        target, label = _target(link), _label(link)
-        if (place := self._places.get(target)) is None:
+        target, label = target_of(link), label_of(link)
+        if target not in self._places:
             return {"t": UNKNOWN_NOTE, "c": label}
-        blocks = _without_back(_without_number(place.blocks, target, label))
-        return {"t": "Note", "c": blocks, "of": target, "label": label}
+        if target not in self._blocks:
+            self._blocks[target] = []
+            self._waiting.append((target, label))
+        return {"t": "Note", "c": self._blocks[target], "of": target, "label": label}
 
     def _again(self, span: Node) -> Node:
         """What stands in place of the number of a note that stands elsewhere in the line."""
         link = next((each for each in nodes(span["c"][1]) if _is_inner(each)), None)
         if link is None:
             return span
-        if (name := _target(link)) not in self._asides:
-            return {"t": UNKNOWN_NOTE, "c": _label(link)}
+        if (name := target_of(link)) not in self._asides:
+            return {"t": UNKNOWN_NOTE, "c": label_of(link)}
         return {**self._asides[name], "of": name}
 
 
 def _is_note(inlines: Sequence[Node]) -> bool:
-    """Whether some text is nothing but the number of a note."""
-    return [each["t"] for each in inlines] in (["Note"], [UNKNOWN_NOTE])
+    """Whether some text is nothing but the number of a note, with its name."""
+    kinds = [each["t"] for each in inlines if each["t"] != "Span" or each["c"][1]]
+    return kinds in (["Note"], [UNKNOWN_NOTE])
 
 
 def _without_brackets(nodes: list[Any]) -> list[Any]:
@@ -429,7 +454,7 @@ def _without_back(value: Any) -> Any:
     """A part of a note without the links that lead back to its number."""
     if isinstance(value, list):
         return [_without_back(each) for each in value if not _is_back(each)]
-    if isinstance(value, dict) and "c" in value:
+    if isinstance(value, dict) and "c" in value and value["t"] != "Note":
         return {**value, "c": _without_back(value["c"])}
     return value
 

@@ -45,6 +45,13 @@ _WRITTEN = {
     **dict.fromkeys(("aside", "figure", "figcaption"), "div"),
     **dict.fromkeys(("dfn", "kbd", "mark", "q"), "span"),
 }
+#: What a program that saved a page says of its address, and where a link leads.
+_SAVED = re.compile(r"(?:saved from url=\([0-9]+\)|\burl: )([^\s#]+)")
+_LINK = re.compile(
+    r"""(?<![\w:-])href\s*=\s*(?:"[^"]*"|'[^']*'|[^\s"'>]*)""", re.IGNORECASE
+)
+#: Elements whose names pandoc drops.
+_NAMELESS = frozenset({"dt", "p", "sup"})
 #: What says how wide columns are, after which pandoc leaves out cells of columns that it doesn't name.
 _COLUMNS = frozenset({"col", "colgroup"})
 #: The parts of a table, by how deep they are in it.
@@ -133,6 +140,8 @@ class _Rewriting(Tags):
         self._sizes: list[TableSize] = []
         self._places = places
         self._quotations = Quotations(self._pieces, self._put)
+        #: The addresses that the page has itself.
+        self._addresses: set[str] = set()
         #: Where the templates begin that are open.
         self._templates: list[int] = []
 
@@ -151,12 +160,14 @@ class _Rewriting(Tags):
         if tag in BLOCKS and not self._templates:
             self._quotations.begin_block(tag, self._start())
         self._is_in_lines |= tag == _LINES
+        if tag == "link" and (dict(attrs).get("rel") or "").lower() == "canonical":
+            self._addresses.add((dict(attrs).get("href") or "").partition("#")[0])
         self._begin_part(tag)
         self._measure(tag, dict(attrs))
         if tag in PARTED:
             self._put(self._start(), self._start(), " ")
         after = ""
-        if tag in ("p", "dt") and (name := dict(attrs).get("id")):
+        if tag in _NAMELESS and (name := dict(attrs).get("id")):
             after = f'<span id="{escape(name)}"></span>'
         self._rewrite(tag, attrs, after + self._before_reading(tag))
         if tag == QUOTATION and not self._templates:
@@ -188,6 +199,10 @@ class _Rewriting(Tags):
             self._put(start, stop, "")
         elif tag == _TEMPLATE and self._templates:
             self._put(self._templates.pop(), stop, "")
+
+    def handle_comment(self, data: str) -> None:
+        if saved := _SAVED.search(data):
+            self._addresses.add(saved[1])
 
     def handle_data(self, data: str) -> None:
         if data.strip():
@@ -295,6 +310,10 @@ class _Rewriting(Tags):
             # it has its address elsewhere, or shows its description, or nothing
             is_shown = any(map(dict(attrs).get, ("alt", "srcset", "data-src")))
             written = f'<img src=""{written[1 + len(tag) :]}' if is_shown else ""
+        address, has_name, name = (dict(attrs).get("href") or "").partition("#")
+        if tag == "a" and has_name and address in self._addresses:
+            # as a browser writes a link within a page that it saves
+            written = _LINK.sub(lambda _: f'href="#{escape(name)}" ', written)
         if self._counts is not None:
             if "titlepage" in (dict(attrs).get("epub:type") or ""):
                 written = _TITLE_PAGE.sub(r"\1front", written)

@@ -169,11 +169,12 @@ class _Reader:
         self._put(before)
 
     def put_notes(self) -> None:
-        """Puts the notes that wait as paragraphs, in the order of their numbers."""
-        waiting, self._waiting = self._waiting, []
-        for number, nodes in waiting:
-            text = " ".join(self._texts_of(nodes))
-            self._put(self._bracketed(f"{number}: {text}" if text else number))
+        """Puts the notes that wait as paragraphs, in the order of their numbers, and then those of them."""
+        while self._waiting:
+            waiting, self._waiting = self._waiting, []
+            for number, nodes in waiting:
+                text = " ".join(self._texts_of(nodes))
+                self._put(self._bracketed(f"{number}: {text}" if text else number))
 
     def _bracketed(self, text: str) -> str:
         brackets = self._reading.brackets
