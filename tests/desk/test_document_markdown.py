@@ -191,6 +191,11 @@ def test_a_note_to_which_several_numbers_lead_is_typed_once() -> None:
     assert lost(found) == [(LossKind.EMPHASIS, "far")]
 
 
+def test_a_text_may_cite_somebody_and_have_links_to_its_parts() -> None:
+    found = read("# Moon {#moon}\n\nSee [2](#moon) and @anna.\n")
+    assert found.texts == ["Moon", "See 2 and @anna."]
+
+
 def test_a_number_of_a_note_before_a_colon_leads_to_it_as_others_do() -> None:
     found = read("One[^a] and two[^a]: three[^b].\n\n[^a]: far\n[^b]: near\n")
     assert found.texts == ["One[1] and two[1]: three[2].", "[1: far]", "[2: near]"]

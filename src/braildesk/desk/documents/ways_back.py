@@ -60,7 +60,7 @@ class WaysBack:
             is_node = isinstance(found, dict)
             if is_node:
                 self._begin(found)
-            if id(found) in self._wanted or is_node and found["t"] == "Superscript":
+            if id(found) in self._wanted or is_node and found.get("t") == "Superscript":
                 # a list begins at the first node in it
                 waiting.append((found, self._place + (not is_node)))
             if is_node:
@@ -70,7 +70,8 @@ class WaysBack:
 
     def _begin(self, node: Node) -> None:
         self._place += 1
-        kind = node["t"]
+        # what is cited has none
+        kind = node.get("t")
         if kind in _TEXTS:
             self._text += 1
             self._near = []
@@ -89,7 +90,7 @@ class WaysBack:
     def _end(self, found: Any, start: int) -> None:
         if id(found) in self._wanted:
             self._spans[id(found)] = start, self._place + 1
-        if isinstance(found, dict) and found["t"] == "Superscript":
+        if isinstance(found, dict) and found.get("t") == "Superscript":
             self._raised -= 1
 
     def is_marked(self, link: Node) -> bool:
