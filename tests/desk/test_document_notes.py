@@ -190,8 +190,17 @@ CASES = (
         '<p id="g">Chapters: <a href="#g1">1</a> or <a href="#g2">2</a>.</p><div id="g1"><p>Far.'
         ' <a href="#g">Top</a></p></div><div id="g2"><p>Near. <a href="#g">Top</a></p></div>'
         '<p id="h1">One<a id="h3" class="noteref" href="#h2">7</a>.</p><p id="h2">Two<a id="h4"'
-        ' class="noteref" href="#h1">8</a>.</p>',
-        ("Chapters: 1 or 2.", "Far. Top", "Near. Top", "One7.", "Two8."),
+        ' class="noteref" href="#h1">8</a>.</p><p id="g3"><a href="#g4">3</a></p><div id="g4"><p>Off.'
+        ' <a href="#g3">Up</a></p></div>',
+        (
+            "Chapters: 1 or 2.",
+            "Far. Top",
+            "Near. Top",
+            "One7.",
+            "Two8.",
+            "3",
+            "Off. Up",
+        ),
     ),
     Case(
         "numbers that lead to parts of the book",

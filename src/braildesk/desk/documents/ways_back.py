@@ -15,6 +15,7 @@ from braildesk.desk.documents.tree import Node
 #: What a link has that is the number of a note though nothing says so; and one that is raised, or in brackets.
 _BARE = re.compile(r"\d{1,4}|[*†‡§]{1,4}")
 _MARKED = re.compile(r"[^\W_]{1,5}([ .\u00a0]?\d{1,4})?")
+_LETTER = re.compile(r"[^\W\d_]")
 _TEXTS = ("Para", "Plain", "Header")
 #: How many names are looked at before a number.
 _NEAR = 3
@@ -27,12 +28,15 @@ def is_bare(label: str) -> bool:
 
 @dataclass(slots=True)
 class _Link:
-    """Where a link stands: its place in the tree, its text, and the names right before it."""
+    """Where a link stands: its place in the tree, its text, and what is before it there."""
 
     place: int
     text: int
+    #: The names right before it.
     near: tuple[str, ...]
     is_raised: bool
+    #: Whether its text has words before it.
+    is_after_words: bool
 
 
 class WaysBack:
@@ -48,6 +52,7 @@ class WaysBack:
         self._texts: dict[str, int] = {}
         self._place = self._text = self._raised = 0
         self._near: list[str] = []
+        self._has_words = False
         self._walk(blocks)
 
     def _walk(self, blocks: list[Node]) -> None:
@@ -75,14 +80,22 @@ class WaysBack:
         if kind in _TEXTS:
             self._text += 1
             self._near = []
+            self._has_words = False
         if name := name_of(node):
             self._texts.setdefault(name, self._text)
             self._near = [*self._near[1 - _NEAR :], name]
-        if kind == "Superscript":
+        if kind == "Str":
+            self._has_words |= _LETTER.search(node["c"]) is not None
+        elif kind == "Superscript":
             self._raised += 1
         elif kind == "Link":
-            near, is_raised = tuple(self._near), self._raised > 0
-            self._links[id(node)] = _Link(self._place, self._text, near, is_raised)
+            self._links[id(node)] = _Link(
+                self._place,
+                self._text,
+                tuple(self._near),
+                self._raised > 0,
+                self._has_words,
+            )
             if node["c"][2][0].startswith("#"):
                 first, _ = self._uses.get(target_of(node), (self._place, 0))
                 self._uses[target_of(node)] = first, self._place
@@ -103,7 +116,10 @@ class WaysBack:
     def lead_to(self, link: Node, part: Any) -> bool:
         """Whether a link to a part of the tree may be a number, to which that part alone leads back."""
         its = self._links.get(id(link))
-        if its is None or not (is_bare(label_of(link)) or self.is_marked(link)):
+        # those of parts stand alone
+        if its is None or not its.is_after_words:
+            return False
+        if not (is_bare(label_of(link)) or self.is_marked(link)):
             return False
         start, stop = self._spans[id(part)]
         uses = (self._uses.get(name, (-1, -1)) for name in its.near)
