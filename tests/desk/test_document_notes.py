@@ -214,6 +214,11 @@ CASES = (
         '<p>Far<a role="doc-noteref" href="#nowhere">7</a>.</p>',
         ("Far[7].",),
     ),
+    Case(
+        "numbers that lead to the front of the page",
+        '<p>Off<a class="footnote-ref" href="#">9</a>, <a href="#">1</a>.</p><div><p>After.</p></div>',
+        ("Off[9], 1.", "After."),
+    ),
 )
 
 
@@ -241,7 +246,8 @@ def test_no_word_of_the_notes_is_lost_and_a_note_that_is_not_there_is_noted(
 ) -> None:
     assert [each.words for each in found.missing] == ["a"]
     assert [each.around for each in found.losses if each.what is LossKind.NOTE] == [
-        "Far[7]."
+        "Far[7].",
+        "Off[9], 1.",
     ]
     assert all(each.what is not LossKind.SUPERSCRIPT for each in found.losses)
 

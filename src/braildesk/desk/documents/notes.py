@@ -55,7 +55,8 @@ def with_notes(tree: Node) -> Node:
     """The tree with each link that is the number of a note made that note."""
     blocks = _headed(tree["blocks"])
     links = [(n, node) for n, node in enumerate(nodes(blocks)) if _is_inner(node)]
-    wanted = {target_of(link) for _, link in links}
+    # a link without a name leads to the front of the page
+    wanted = {target_of(link) for _, link in links} - {""}
     asides = [node for node in nodes(blocks) if _is_aside(node)]
     if not wanted and not asides:
         return tree
