@@ -932,6 +932,25 @@ def test_a_book_in_epub_has_its_title_page_and_its_notes(tmp_path: Path) -> None
     assert lost(found, LossKind.CONTENTS) == ["One"]
 
 
+@pytest.mark.parametrize("name", ["in/../off/a b.xhtml", "off/a b.xhtml"])
+def test_a_book_in_epub_may_have_its_pages_beside_the_folder_of_its_list(
+    tmp_path: Path, name: str
+) -> None:
+    parts = {
+        "mimetype": EPUB,
+        "META-INF/container.xml": ROOT,
+        "in/book.opf": PACKAGE.replace("a%20b", "../off/a%20b").replace("z.x", "./z.x"),
+        name: PAGE.format('<p>Far<a href="../in/z.xhtml#n" id="m">1</a>.</p>'),
+        "in/nav.xhtml": PAGE.format("<nav/>"),
+        "in/z.xhtml": PAGE.format(
+            '<p id="n"><a href="../off/a%20b.xhtml#m">1</a> Very.</p>'
+        ),
+    }
+    container_of(tmp_path / "moon.epub", **parts)
+    found = read_manuscript(tmp_path / "moon.epub")
+    assert (found.texts, found.missing) == (["Far[1].", "[1: Very.]"], ())
+
+
 def test_pages_outside_of_the_order_of_reading_are_typed_and_named(
     tmp_path: Path,
 ) -> None:
@@ -1112,6 +1131,15 @@ def test_readings_of_characters_in_an_odt_are_typed_in_brackets(
     found = read_manuscript(odt(tmp_path / "a.odt", text))
     assert found.texts == ["One kan(ji)far a & b(c < d), two", "near"]
     assert found.missing == ()
+
+
+def test_an_odt_may_have_no_styles(tmp_path: Path) -> None:
+    whole = odt(tmp_path / "a.odt", "<text:h>One</text:h><text:p>Two</text:p>")
+    with zipfile.ZipFile(whole) as container:
+        parts = {name: container.read(name).decode() for name in container.namelist()}
+    del parts["styles.xml"]
+    container_of(tmp_path / "b.odt", **parts)
+    assert read_manuscript(tmp_path / "b.odt").texts == ["One", "Two"]
 
 
 def test_words_of_an_odt_that_a_condition_hides_are_missing(tmp_path: Path) -> None:

@@ -53,6 +53,7 @@ _FIELDS = frozenset(
     " time title user-defined user-field-get user-field-input variable-get variable-input variable-set"
     " word-count".split()
 )
+_NO_STYLES = f'<office:document-styles xmlns:office="{_OFFICE[1:-1]}"/>'.encode()
 #: Where the form of a number has the number of a level, from 1 on.
 _PLACE = re.compile("%([1-9][0-9]?)%")
 _OUTLINE = "outline-style"
@@ -97,7 +98,8 @@ def with_odt_numbers(
             for name in container.namelist()
         }
         root = root_of(parts[_CONTENT])
-        styles = root_of(parts.get(_STYLES) or b"<none/>")
+        # pandoc reads no text that has none
+        styles = root_of(parts.setdefault(_STYLES, _NO_STYLES) or _NO_STYLES)
         numbering = _Numbering((styles, root), bullet)
         labels = iter(numbering.labels(root))
 

@@ -101,11 +101,20 @@ class Package:
     def _page(self, item: Element, is_in_order: bool) -> Page:
         return Page(self._part_of(item), is_in_order, _is_list(item))
 
+    def paths(self) -> dict[str, str]:
+        """The paths by which pandoc looks for pages in other folders, by their parts."""
+        items = [self._items[each.get("idref")] for each in self._order]
+        paths = map(self._path_of, items + self._outside())
+        return {normpath(path): path for path in paths if ".." in path}
+
     def _part_of(self, item: Element) -> str:
+        return normpath(self._path_of(item))
+
+    def _path_of(self, item: Element) -> str:
         folder = PurePosixPath(self.part).parent
         # some programs name a place of a page here
         page = item.get("href", "").partition("#")[0]
-        return normpath(str(folder / unquote(page)))
+        return str(folder / unquote(page))
 
 
 def _is_list(item: Element) -> bool:

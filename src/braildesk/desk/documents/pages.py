@@ -98,6 +98,7 @@ def readable_book(data: bytes) -> bytes:
         package = Package(container)
         pages = frozenset(page.part for page in package.pages())
         parts[package.part] = package.whole()
+    paths = package.paths()
     counts = Counter(PurePosixPath(name).name for name in names)
     places = Places()
     made = BytesIO()
@@ -110,6 +111,8 @@ def readable_book(data: bytes) -> bytes:
                     page = with_line_feeds(characters_of_page(part))
                 part = _Rewriting(page, places, counts).whole().encode()
             other.writestr(name, part)
+            if name in paths:
+                other.writestr(paths[name], part)
     return made.getvalue()
 
 
