@@ -252,11 +252,19 @@ def test_no_word_of_the_notes_is_lost_and_a_note_that_is_not_there_is_noted(
     assert all(each.what is not LossKind.SUPERSCRIPT for each in found.losses)
 
 
-def test_links_of_a_saved_page_that_lead_to_it_by_its_address_lead_to_its_notes() -> (
-    None
-):
+@pytest.mark.parametrize(
+    "said",
+    [
+        "<!-- saved from url=(0022)https://a.example/x?y#z -->",
+        "<!--\n Page saved with SingleFile \n url: https://a.example/x?y \n-->",
+        '<link rel="canonical" href="https://a.example/x?y">',
+    ],
+)
+def test_links_of_a_saved_page_that_lead_to_it_by_its_address_lead_to_its_notes(
+    said: str,
+) -> None:
     page = (
-        "<!DOCTYPE html>\n<!-- saved from url=(0022)https://a.example/x?y#z -->\n<html>"
+        f"<!DOCTYPE html>\n{said}\n<html><!-- url: https://a.example/x -->"
         '<p>Far<sup><a id="m1" href="https://a.example/x?y#n1">1</a></sup>. <a'
         ' href="https://a.example/x#n1">More</a>.</p><p>After it.</p><ol><li id="n1">Very. <a'
         " href='https://a.example/x?y#m1'>\u21a9</a></li></ol></html>"

@@ -5,8 +5,9 @@ gets it, `numbers` writes the numbers that Word shows into a DOCX, `word_print` 
 `word_notes` finds its notes of several numbers, `styles_of_odt` has the emphasis of styles,
 `tables_of_odt` keeps the places of cells, `table_places` counts those in which none begins, as
 `markdown_tables` does, `package` has the pages of an EPUB, `pages` keeps the names of their links
-and `quotations` their marks, `markdown_notes` those of notes, and `markdown_front` has one front alone for one;
-before LibreOffice does, `rtf_fields` keeps results of fields. `tree` makes paragraphs of what pandoc gives, with
-the notes that `notes` and `ways_back` find, and `nodes` has the words of that, and with the tags that
-`raw_html` does; `contents` has all words of the file, to be compared with them.
+and `quotations` their marks, `markdown_notes` those of notes, and `markdown_front` has one front
+alone for one; before LibreOffice does, `rtf_fields` keeps the results of fields. `tree` makes
+paragraphs of what pandoc gives, with the notes that `notes` and `ways_back` find, of which `nodes`
+has the words, and the tags that `raw_html` does, and `contents` has all words of the file, to be
+compared with them.
 """

@@ -2,8 +2,9 @@
 
 A link is the number of a note if it is said to be one (by its class or role), or if it has nothing
 but a number or a sign and leads to a later paragraph that begins with a link of the same, or that leads
-back to it. The paragraphs of the note are taken from where they stand, without their number and the link back; Texinfo puts them
-below a heading that is the number. Of a number whose note isn't found, that is noted.
+back to it. The paragraphs of the note are taken from where they stand, without their number and the link
+back; Texinfo puts them below a heading that is the number. Of a number whose note isn't found, that is
+noted.
 """
 
 import re

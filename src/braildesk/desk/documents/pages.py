@@ -46,7 +46,7 @@ _WRITTEN = {
     **dict.fromkeys(("dfn", "kbd", "mark", "q"), "span"),
 }
 #: What a program that saved a page says of its address, and where a link leads.
-_SAVED = re.compile(r"(?:saved from url=\([0-9]+\)|\burl: )([^\s#]+)")
+_SAVED = re.compile(r"saved (?:from url=\([0-9]+\)|with SingleFile\s+url: )([^\s#]+)")
 _LINK = re.compile(
     r"""(?<![\w:-])href\s*=\s*(?:"[^"]*"|'[^']*'|[^\s"'>]*)""", re.IGNORECASE
 )
