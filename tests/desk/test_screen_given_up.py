@@ -191,6 +191,21 @@ def test_text_that_is_pasted_where_none_is_typed_comes_back_as_a_paragraph(
     assert sat.state.version == 9
 
 
+def test_what_was_said_before_a_text_was_pasted_is_not_said_again(
+    moon: Path, sit: Sit
+) -> None:
+    sat = sit(moon)
+    sat.press("o", "f5")
+    assert sat.state.heard.startswith("That key does nothing here.")
+    paste(sat, "It rose.\nIt set.")
+    assert sat.state.question and sat.state.heard == ""
+    sat.press("escape", "escape", "o")
+    sat.state = sat.desk.paste(sat.state, "It rose.\n", is_keys=True)
+    assert sat.state.heard.startswith("Enter came with other keys at once")
+    sat.state = sat.desk.paste(sat.state, "It set.", is_keys=True)
+    assert sat.state.question and sat.state.heard == ""
+
+
 def test_text_that_is_pasted_at_a_question_is_no_answer_and_is_kept(
     moon: Path, sit: Sit
 ) -> None:

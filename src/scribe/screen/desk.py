@@ -217,7 +217,7 @@ class Desk:
 
         It may have come as keys, all at once.
         """
-        step = pasted_lines.pasted(state, text, is_keys)
+        step = pasted_lines.pasted(state.saying(""), text, is_keys)
         question, before = step.state.question, state.question
         is_new = before is None or question and question.sentence != before.sentence
         if question is not None and question.lines and is_new:
