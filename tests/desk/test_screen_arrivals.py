@@ -227,6 +227,23 @@ def test_a_line_before_the_screen_is_there_is_kept_and_answers_no_offer(
     assert [each.text for each in Drafts(moon).given_up()] == ["no"]
 
 
+def test_a_text_whose_first_letter_answers_no_offer_is_kept_from_that_letter_on(
+    moon: Path, at: Open
+) -> None:
+    Drafts(moon).save(SOON)
+    terminal = at(moon, 160)
+    terminal.wait("Shall it be typed further? y is yes, n is no.")
+    terminal.answer("N")
+    terminal.wait("That key is no answer to the question.")
+    # with a pause that there is before an answer
+    terminal.settle()
+    time.sleep(0.5)
+    terminal.send("Oh")
+    terminal.wait("U brings it back, for a new paragraph.")
+    assert Drafts(moon).waiting() == SOON
+    assert [each.text for each in Drafts(moon).given_up()] == ["Oh"]
+
+
 def test_letters_that_are_typed_on_after_keys_that_came_at_once_answer_no_question(
     moon: Path, at: Open
 ) -> None:

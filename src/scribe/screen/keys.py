@@ -118,6 +118,12 @@ def step(state: State, key: str) -> Step:
     return bound.does(state)
 
 
+def is_obeyed(state: State, key: str) -> bool:
+    """Whether a key does anything but have something said."""
+    found = step(state, key)
+    return found.asked is not None or found.state.saying(state.message) != state
+
+
 def _looking(state: State, pages: Pages, key: str) -> State:
     moved = pager.moved(pages, state.size, key)
     if key in ("n", "N") and pages.targets and pages.offer is None:

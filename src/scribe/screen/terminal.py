@@ -41,6 +41,7 @@ from scribe.screen.arrivals import (
 from scribe.screen.desk import Desk, preview_of, with_preview
 from scribe.screen.drawing import Drawing, draw
 from scribe.screen.keyboard import Keyboard, Pasted, Stroke
+from scribe.screen.keys import is_obeyed
 from scribe.screen.lines import CHOSEN, HEAD, HIGHLIGHTED, MARKED, PLAIN
 from scribe.screen.state import Size, State
 from scribe.screen.unread import rest_of, unread_of
@@ -380,9 +381,9 @@ class Screen:
         pressed_at = now if since is None else since
         self._do(self._arrivals.let_go(pressed_at))
         self._question.came(self._asked, pressed_at, read_at)
-        self._arrivals.is_unread = self._is_unread_offer
         text, self._taking = self._taking, ""
         strokes = self._keyboard.strokes(text)
+        self._arrivals.is_unread = self._is_unread_offer or self._begin_text(strokes)
         self._lull.came(len(text), self._keyboard.is_pasting, now)
         self._do(self._arrivals.came(strokes, now, since))
 
@@ -456,7 +457,7 @@ class Screen:
         elif isinstance(stroke, Pasted):
             state = self._desk.paste(self.state, stroke.text, stroke.is_keys)
             self._become(state if stroke.has_end else state.saying_too(_NO_END))
-        elif stroke == UNREAD or self._is_unread_offer and is_text(stroke):
+        elif self._is_unread_offer and (stroke == UNREAD or is_text(stroke)):
             self._become(self.state.saying(_TOO_SOON).after(self.state))
         elif self._is_typed_on(stroke):
             self._become(self._desk.paste(self.state, stroke))
@@ -469,11 +470,21 @@ class Screen:
         return self.state.is_lost or self.state.question
 
     @property
+    def _is_offer(self) -> bool:
+        """Whether something is offered for which no key has asked."""
+        question = self.state.question
+        return question is not None and question.is_offer or self.state.is_lost
+
+    @property
     def _is_unread_offer(self) -> bool:
         """Whether something is offered that was not there to be read before the last key."""
-        question = self.state.question
-        is_offer = question is not None and question.is_offer or self.state.is_lost
-        return is_offer and not self._question.is_read_of(self._asked)
+        return self._is_offer and not self._question.is_read_of(self._asked)
+
+    def _begin_text(self, strokes: Sequence[Stroke]) -> bool:
+        """Whether keys begin a text at what is offered, since the first is no answer to it."""
+        first = strokes[0] if strokes and self._is_offer else None
+        is_letter = isinstance(first, str) and is_text(first)
+        return is_letter and not is_obeyed(self.state, str(first))
 
     def _is_typed_on(self, key: str) -> bool:
         """Whether a key that answers a question about what is typed came too soon, and is a letter."""
