@@ -91,6 +91,19 @@ def test_a_mark_that_was_resolved_is_put_again(book: OpenBook) -> None:
     ]
 
 
+def test_a_mark_that_was_resolved_in_a_struck_paragraph_bars_nothing_before_it(
+    book: OpenBook,
+) -> None:
+    book.done(requests.Strike(2))
+    book.resolved(book.reading(book.contents().paragraphs[1]), 1)
+    done = book.taken_back(lambda *_: None)
+    assert done.said == "Mark 1 was resolved, which stays."
+    done = book.taken_back(lambda *_: None)
+    assert done.said == "Taken back: paragraph 2 was struck."
+    with pytest.raises(NothingToTakeBack):
+        book.taken_back(lambda *_: None)
+
+
 def test_a_mark_is_put_again_on_its_words_where_these_are_by_then(
     book: OpenBook,
 ) -> None:

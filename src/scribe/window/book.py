@@ -280,8 +280,10 @@ class OpenBook:
     def _resolved(self, its: ParagraphReading, number: int) -> Deed:
         """That a mark was resolved, which is put again on the cells of its words as they are now."""
         (mark,) = (each for each in its.marks if each.id == number)
-        put = replace(deeds.on_a_character(mark, len(its.text)), resolved=False)
-        (cells,) = cells_of_marks(self._session, replace(its, marks=(put,)))
+        cells = Span(0, 0)
+        if not its.paragraph.struck:
+            put = replace(deeds.on_a_character(mark, len(its.text)), resolved=False)
+            (cells,) = cells_of_marks(self._session, replace(its, marks=(put,)))
         return deeds.resolved(mark, its.paragraph.id, cells)
 
     def with_table(
