@@ -72,6 +72,19 @@ def test_what_is_said_of_an_import_beside_the_screen_is_no_more_that_it_waits(
     assert WAITING in heard
 
 
+def test_what_is_said_of_an_import_beside_the_screen_is_no_more_how_far_it_was(
+    moon: Path, monkeypatch: pytest.MonkeyPatch
+) -> None:
+    monkeypatch.setattr("scribe.words.console.PROGRESS_SECONDS", 0.0)
+    text = moon.with_name("text.txt")
+    text.write_text("The sun\n\nThe sea\n")
+    heard: list[str] = []
+    wanted = ImportFrom(text, "end", "en")
+    done = done_in_background(moon, wanted, heard.append, lambda: None)
+    assert done.lines == ("2 paragraphs typed, numbers 4 to 5, by the table en.",)
+    assert "1 of 2 paragraphs typed." in heard
+
+
 def test_the_screen_says_that_it_waits_and_keeps_the_keys(moon: Path, at: Open) -> None:
     terminal = at(moon, 40, 12)
     terminal.wait("? shows the keys.")

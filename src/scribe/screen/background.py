@@ -13,7 +13,7 @@ from braildesk.desk.import_text import Import
 
 from scribe.screen.actions import ExportTo, ImportFrom, LeaveImport
 from scribe.screen.state import Question
-from scribe.words.console import WAITING, Console, Heard
+from scribe.words.console import Console, Heard
 from scribe.words.export import export_in_words
 from scribe.words.import_text import import_in_words, question as import_question
 from scribe.words.status import Interrupted, Stop, in_sentences
@@ -30,6 +30,16 @@ class ActionResult:
     question: Question | None = None
 
 
+@dataclass(frozen=True)
+class _Beside(Console):
+    """What is said of work: how far it is, or that it waits, is said meanwhile, and not in the report."""
+
+    tell: Callable[[str], None] = lambda line: None
+
+    def _say_now(self, sentence: str) -> None:
+        self.tell(sentence)
+
+
 def done_in_background(
     path: Path,
     action: ExportTo | ImportFrom,
@@ -38,7 +48,7 @@ def done_in_background(
 ) -> ActionResult:
     """Does an action as the command of the same name does, until the check has it end."""
     shown, said = Heard(report), Heard(report)
-    console = Console(BytesIO(), shown, said, check)
+    console = _Beside(BytesIO(), shown, said, check, tell=report)
     question, kept = None, ""
     try:
         with in_sentences():
@@ -57,9 +67,7 @@ def done_in_background(
         pass
     what = "Export." if isinstance(action, ExportTo) else "Import."
     lines = (*shown.getvalue().splitlines(), *said.getvalue().splitlines())
-    # nothing is waited for any more
-    over = tuple(line for line in lines if line != WAITING)
-    return ActionResult(what, over, kept, question)
+    return ActionResult(what, lines, kept, question)
 
 
 def _imported(
