@@ -29,8 +29,10 @@ trap 'exit 1' INT TERM HUP
 "$python" -m mypy --strict "${files[@]}" > "$room/types" 2>&1 &
 running=($!)
 for number in $(seq "${PROCESSES:-2}"); do
-    "$python" -m pytest -q -p no:cacheprovider -o console_output_style=classic --hypothesis-seed="${SEED:-1}" \
-        tests/desk "$@" > "$room/tests-$number" 2>&1 &
+    # each has a folder of its own, since pytest shuts the one that it shares against others whenever it begins
+    mkdir "$room/$number"
+    PYTEST_DEBUG_TEMPROOT=$room/$number "$python" -m pytest -q -p no:cacheprovider -o console_output_style=classic \
+        --hypothesis-seed="${SEED:-1}" tests/desk "$@" > "$room/tests-$number" 2>&1 &
     running+=($!)
 done
 status=0
