@@ -77,11 +77,11 @@ def test_a_book_that_is_not_free_in_time_is_said_to_be_in_use(
     moon: Path, monkeypatch: pytest.MonkeyPatch, words: str
 ) -> None:
     words = words.format(moon, moon)
-    found = run_beside(monkeypatch, moon, 1.5, *words.split())
-    assert found == (
-        2,
-        "",
-        f"Another program has “{moon}” open. Nothing was changed. End that one first.\n",
+    status, shown, said = run_beside(monkeypatch, moon, 1.5, *words.split())
+    assert (status, shown) == (2, "")
+    # talk says it in lines of a width
+    assert " ".join(said.split()) == (
+        f"Another program has “{moon}” open. Nothing was changed. End that one first."
     )
 
 
