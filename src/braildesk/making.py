@@ -102,6 +102,7 @@ def _new_book(
             with suppress(FileExistsError):
                 _make(asked, program, holding)
                 return
+        _judge_name(asked.path, NotMade, "new book")
         _followed(asked.path, NotMade, "made")
     except OSError as error:
         if error.errno == errno.ENAMETOOLONG:
@@ -288,6 +289,7 @@ def _claimed(
             )
         if replaces is None:
             raise _taken(named)
+        _judge_name(named, NotCopied, "copy")
         path = _followed(named, NotCopied, "replaced")
         older = stack.enter_context(held(BookFile(named), os.O_RDWR))
         if not replaces(older):
@@ -322,18 +324,23 @@ def _taken(named: str) -> FileIsThere:
     )
 
 
-def _judge_log(named: str, kind: type[NotMade], what: str) -> None:
-    """Whether a book may get a path at which none is: work there belongs to another one.
-
-    What keeps a book from being opened there keeps it from being made too, and a name by which what
-    belongs to another one is looked for.
-    """
-    log, path = log_path(named), real_path(named)
+def _judge_name(named: str, kind: type[NotMade], what: str) -> None:
+    """Whether a book may get a name: not one by which what belongs to another one is looked for."""
+    path = real_path(named)
     for ending in filter(path.endswith, _BESIDE):
         raise kind(
             f"“{named}” is the name of a file that belongs to the book"
             f" “{path.removesuffix(ending)}”. Take another path for the {what}."
         )
+
+
+def _judge_log(named: str, kind: type[NotMade], what: str) -> None:
+    """Whether a book may get a path at which none is: work there belongs to another one.
+
+    What keeps a book from being opened there keeps it from being made too.
+    """
+    _judge_name(named, kind, what)
+    log = log_path(named)
     if not is_log(log):
         raise cannot_open(BookFile(named), Why.NO_LOG)
     if has_journal(named):

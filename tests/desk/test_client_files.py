@@ -1407,6 +1407,23 @@ def test_no_book_gets_a_name_by_which_what_belongs_to_another_is_looked_for(
     assert not beside.exists()
 
 
+@pytest.mark.parametrize("has_work", [True, False])
+def test_no_book_takes_the_place_of_what_belongs_to_another_one(
+    book: Path, tmp_path: Path, has_work: bool
+) -> None:
+    log, other = Path(f"{book}-wal"), tmp_path / "other"
+    braildesk.new_book(other)
+    if has_work:
+        killed_after(book, "kept")
+    else:
+        log.touch()
+        with pytest.raises(NotMade, match="is the name of a file that belongs to"):
+            braildesk.new_book(log)
+    with pytest.raises(NotCopied, match="is the name of a file that belongs to"):
+        braildesk.copy(other, log, overwrite=True)
+    assert braildesk.check(book) == 1 + has_work
+
+
 def test_a_copy_is_not_put_where_a_link_leads_nowhere(
     book: Path, tmp_path: Path
 ) -> None:
