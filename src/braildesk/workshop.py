@@ -117,7 +117,9 @@ def place_of(path: str) -> Iterator[Place]:
 
 def own_path(path: str) -> str:
     """Where a path leads by links of this user and of root alone; ``OthersLink`` at any other."""
-    left, here = os.path.join(os.getcwd(), path).split("/")[::-1], "/"
+    # a folder that is gone has no path, which only a path from there needs
+    whole = path if os.path.isabs(path) else os.path.join(os.getcwd(), path)
+    left, here = whole.split("/")[::-1], "/"
     for _ in range(_MOST_STEPS):
         if not left:
             return here

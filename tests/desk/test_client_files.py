@@ -1424,6 +1424,18 @@ def test_no_book_takes_the_place_of_what_belongs_to_another_one(
     assert braildesk.check(book) == 1 + has_work
 
 
+def test_books_are_replaced_and_made_by_whole_paths_in_a_folder_that_is_gone(
+    book: Path, tmp_path: Path, monkeypatch: pytest.MonkeyPatch
+) -> None:
+    empty, gone = tmp_path / "empty", tmp_path / "gone"
+    empty.touch()
+    gone.mkdir()
+    monkeypatch.chdir(gone)
+    gone.rmdir()
+    braildesk.new_book(empty)
+    assert braildesk.copy(book, empty, overwrite=True) == 1
+
+
 def test_a_copy_is_not_put_where_a_link_leads_nowhere(
     book: Path, tmp_path: Path
 ) -> None:
