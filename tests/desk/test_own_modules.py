@@ -112,3 +112,14 @@ def test_a_fault_is_one_where_the_modules_of_the_beginning_are_held(
     )
     hold_modules()
     assert "has a fault of its own" in endings.of_fault(KeyError("x"), "Done.")
+
+
+def test_a_fault_is_kept_where_the_modules_lie_in_an_archive(
+    monkeypatch: pytest.MonkeyPatch, tmp_path: Path
+) -> None:
+    archive = tmp_path / "scribe.zip"
+    archive.touch()
+    monkeypatch.setenv("XDG_STATE_HOME", str(tmp_path))
+    monkeypatch.setattr(endings, "__file__", str(archive / "endings.py"))
+    said = endings.of_fault(KeyError("x"), "Done.")
+    assert "Please report it with its details, which are in" in said

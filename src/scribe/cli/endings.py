@@ -201,6 +201,9 @@ def _is_replaced() -> bool:
                     return True
             except FileNotFoundError:
                 return True
+            except OSError:
+                # of what can't be looked at, as in an archive, nothing is known
+                continue
     return False
 
 
