@@ -54,7 +54,8 @@ def test_the_screen_saves_a_book_that_is_gone_from_its_path(
     terminal.answer("q")
     assert terminal.ended() == 3
     saved = moon.with_name("moon.braildesk-saved-1")
-    assert f"is in the new file “{saved}”." in "".join(terminal.said.split("\n"))
+    # a path may be parted at the end of a line
+    assert f"isinthenewfile“{saved}”." in "".join(terminal.said.split())
     with Session(saved) as session:
         assert [each.id for each in session.paragraphs() if each.struck] == [1, 2]
 
