@@ -2,6 +2,7 @@
 
 import os
 from argparse import ArgumentParser, Namespace
+from typing import TYPE_CHECKING
 
 from scribe.cli.endings import say_last
 from scribe.cli.own_modules import hold_modules
@@ -10,6 +11,9 @@ from scribe.cli.parser import Subparsers, add_file, command_parser, words
 from scribe.words.aftermath import tell_end
 from scribe.words.console import Console
 from scribe.words.status import Status, Stop, not_loaded
+
+if TYPE_CHECKING:
+    from scribe.window.application import Application
 
 MORE = """\
 The paragraphs are a table, and of the chosen one the print and the braille are shown, each
@@ -71,6 +75,11 @@ def run(arguments: Namespace, console: Console) -> Status:
             application.tell(failed.sentence)
         raise
     application.run()
+    return _closed(application, console)
+
+
+def _closed(application: "Application", console: Console) -> Status:
+    """Says what is so of the book once its window is closed."""
     if application.loss:
         console.say(f"{application.loss} {application.waits}".rstrip())
         return Status.FAILED
