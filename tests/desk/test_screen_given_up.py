@@ -116,6 +116,21 @@ def test_a_text_whose_paragraph_an_older_file_lacks_is_said_to_be_a_new_paragrap
     )
 
 
+def test_what_a_mark_goes_on_is_said_where_its_note_is_typed_further(
+    moon: Path, sit: Sit
+) -> None:
+    sat = sit(moon)
+    sat.press("/", *"far", "enter", "m", *"how far?", "escape", "U", "y")
+    assert sat.state.heard == "On “far”."
+    # it has the same cells whatever print was put in before them
+    sat.press("escape", "home", "enter", *"Oh, ", "enter", "U")
+    assert "The print there has been changed since." in asked(sat)
+    sat.press("y")
+    assert sat.state.heard == "On “n i”."
+    sat.press("enter")
+    assert "Mark 2, open, on “n i”: how far?" in " ".join(sat.lines)
+
+
 def test_the_question_says_how_many_lines_wait(moon: Path, sit: Sit) -> None:
     Drafts(moon).save(Draft(Aim.AFTER, 2, "en", "", "It rose.\nIt set.\nIt rose."))
     sat = sit(moon)

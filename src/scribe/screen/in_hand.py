@@ -80,11 +80,18 @@ def holding(state: State, mark: int) -> State:
 
 def asked_for_note(session: Session, state: State, cells: Span) -> State:
     """The state in which the note of a mark is typed; said are all the words that it will be on."""
-    its = state.reading
-    assert its is not None
-    words = words_of(session, its.paragraph.id, cells, its.text, its.braille)
-    said = f"On {quoted(its.text[words.start : words.stop])}."
+    assert state.paragraph is not None
+    said = on_words(session, state.paragraph.id, cells)
     return prompted(state, Purpose.NOTE, said, _OF_MARK)
+
+
+def on_words(session: Session, paragraph: int, cells: Span) -> str:
+    """All the words that a mark on cells will be on; nothing if the paragraph has no cells."""
+    text, braille = session.print_of(paragraph), session.braille_of(paragraph)
+    if not braille:
+        return ""
+    words = words_of(session, paragraph, cells, text, braille)
+    return f"On {quoted(text[words.start : words.stop])}."
 
 
 def touched(marks: list[Mark]) -> str:

@@ -11,6 +11,7 @@ from braildesk.text.spans import Span
 
 from scribe.screen.actions import BringBack, GiveUp, PutBy, PutOff
 from scribe.screen.field import Field, Purpose
+from scribe.screen.in_hand import on_words
 from scribe.screen.state import (
     Pane,
     Question,
@@ -116,6 +117,9 @@ def asked_about(
     field = field_of(saved)
     if saved.aim is Aim.NOTE and places:
         state = _on_cells(session, state, saved)
+        assert state.paragraph is not None and state.chosen_cells is not None
+        said = on_words(session, state.paragraph.id, state.chosen_cells)
+        field = replace(field, said=said)
     elif not places and not saved.aim.is_new:
         field = Field(Purpose.AFTER, saved.text, len(saved.text))
     table = saved.table if saved.table in state.tables else None
