@@ -166,6 +166,34 @@ def test_words_that_are_refused_are_explained(
     assert usage.startswith("usage: scribe")
 
 
+@pytest.mark.parametrize(
+    "words, shown",
+    [
+        ("find {} -- --", "Paragraph 1, character 9: Two men [--] one."),
+        ("mark {} 1 -- -- why?", "Mark 1, open, on “--”: why?"),
+        ("mark {} 1 -- men --", "Mark 1, open, on “men”: --"),
+        ("mark {} -- 1 -- --", "Mark 1, open, on “--”: --"),
+        ("change {} 1 -- -- ,", "Paragraph 1: Two men [,] one."),
+    ],
+)
+def test_two_hyphens_are_words_after_those_that_end_the_options(
+    words: str, shown: str, book: Path
+) -> None:
+    with Session(book) as session:
+        session.add_paragraph("end", "en", "Two men -- one.")
+    ran = scribe(*words.format(book).split(), folder=book.parent)
+    assert (ran.status, ran.shown.splitlines()[0]) == (0, shown)
+
+
+def test_two_hyphens_are_words_at_a_prompt(book: Path) -> None:
+    with Session(book) as session:
+        session.add_paragraph("end", "en", "Two men -- one.")
+    given = "change 1 -- -- ,\nvolume 1 -- --\n"
+    ran = scribe("talk", book, folder=book.parent, given=given)
+    assert "Paragraph 1: Two men [,] one." in ran.shown.splitlines()
+    assert "Argument on|off: '--' is neither on nor off." in ran.said.splitlines()
+
+
 def test_a_word_that_is_nearly_a_command_is_guessed(tmp_path: Path) -> None:
     ran = scribe("unod", "m", "1", folder=tmp_path)
     assert ran.status == 1

@@ -108,6 +108,14 @@ class Parser(argparse.ArgumentParser):
             help="say what this does, with an example",
         )
 
+    def _get_values(self, action: argparse.Action, arg_strings: list[str]) -> Any:
+        # after those that end the options, two hyphens are a word as any, which argparse leaves out
+        if action.nargs is None and arg_strings == ["--"]:
+            value = self._get_value(action, "--")
+            self._check_value(action, value)
+            return value
+        return super()._get_values(action, arg_strings)
+
     def add_version(self) -> None:
         """Adds the option that shows the version."""
         self.add_argument(
