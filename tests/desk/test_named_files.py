@@ -296,6 +296,8 @@ def test_what_the_shell_hands_over_is_imported(book: Path) -> None:
     for words in (
         'scribe import book.braildesk <(printf "The moon\\n")',
         'printf "The tides\\n" | scribe import book.braildesk /dev/stdin',
+        'printf "The sand\\n" > sea.txt;'
+        ' scribe import book.braildesk sea.txt --replace <(printf "sand\\tsea\\n")',
     ):
         done = subprocess.run(
             ["bash", "-c", words.replace("scribe", f"{sys.executable} -m scribe")],
@@ -307,7 +309,7 @@ def test_what_the_shell_hands_over_is_imported(book: Path) -> None:
         )
         assert done.stdout.startswith(b"1 paragraph typed, number ")
     shown = scribe("show", book, "--print", folder=book.parent).shown
-    assert "The moon\n" in shown and "The tides\n" in shown
+    assert all(text in shown for text in ("The moon\n", "The tides\n", "The sea\n"))
 
 
 def test_requests_from_a_device_without_an_end_are_given_up(moon: Path) -> None:

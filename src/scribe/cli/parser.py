@@ -7,6 +7,7 @@ from pathlib import Path
 from typing import TYPE_CHECKING, Any, NoReturn, TypeVar, cast
 
 from braildesk.desk import USUAL_WAIT
+from braildesk.named_files import is_handed_over
 from braildesk.text.cells import Notation
 from braildesk.text.wrapping import wrap
 from braildesk.version import version
@@ -278,7 +279,7 @@ def readable(word: str) -> Path:
     """The path of a file."""
     path = Path(word)
     try:
-        is_file = path.is_file()
+        is_file = path.is_file() or is_handed_over(path)
     except (OSError, ValueError) as cause:
         why = (isinstance(cause, OSError) and cause.strerror) or cause
         raise argparse.ArgumentTypeError(f"{word} can't be read: {why}") from cause
