@@ -149,7 +149,9 @@ def test_a_report_has_all_places_and_the_terminal_a_few(book: Path) -> None:
     assert Path("lost.txt").read_text() == lines(
         *head, *listed[:6], "- “seven”, 2 times"
     )
-    assert "--report FILE writes all places to a file.\n" in put(book).said
+    assert (
+        "scribe import --report FILE writes all places to a file.\n" in put(book).said
+    )
     assert put(book, "--report", "moon.md", "--again") == Ran(
         2, "", "The report would take the place of moon.md. Nothing was typed.\n"
     )
@@ -366,7 +368,7 @@ def test_characters_that_the_table_lacks_are_shown_once_each_with_what_is_lost(
             "- “and” in “To → and → back…”",
             f"moon.md, paragraph 1, Moon [→] sea: {arrow} It stands in the text 3 times.",
             f"moon.md, paragraph 2, To → and → back[…]: {dots} It stands in the text once.",
-            "--replace PAIRS puts other characters in their place.",
+            "scribe import --replace PAIRS puts other characters in their place.",
             "Nothing was typed.",
         ),
     )

@@ -192,7 +192,7 @@ def _report(importer: Importer, show: Callable[..., None], report: Path | None) 
     if report is not None:
         show(f"All places are in {report}.")
     elif any(line.startswith("- and ") for line in lines):
-        show("--report FILE writes all places to a file.")
+        show("scribe import --report FILE writes all places to a file.")
 
 
 def _write_report(job: Import, report: Path, lines: Sequence[str]) -> None:
@@ -366,7 +366,9 @@ def _faulty(problem: Faulty) -> list[str]:
         isinstance(each.passage, DocumentPassage) and isinstance(each.what, Lacking)
         for each in problem.faults
     ):
-        sentences.append("--replace PAIRS puts other characters in their place.")
+        sentences.append(
+            "scribe import --replace PAIRS puts other characters in their place."
+        )
     sentences += _made_anew(problem)
     if problem.over:
         sentences.append(
