@@ -432,6 +432,20 @@ def test_an_export_and_an_import_are_done_and_the_book_is_open_again(
     ]
 
 
+def test_that_nothing_was_imported_is_shown_before_what_would_be_lost(
+    moon: Path, sit: Sit
+) -> None:
+    text = moon.with_name("more.md")
+    text.write_text("The *sun*…\n")
+    sat = sit(moon)
+    sat.press("i")
+    sat.write(str(text))
+    sat.press("enter")
+    sat.state = sat.desk.away(sat.state, print)
+    shown = " ".join(sat.lines)
+    assert -1 < shown.find("Nothing was typed.") < shown.find("is read as Markdown")
+
+
 def test_an_import_into_an_empty_book_has_the_table_that_was_chosen(
     book: Path, sit: Sit
 ) -> None:

@@ -59,7 +59,7 @@ def done_in_background(
             else:
                 kept, question = _imported(path, action, console)
     except Stop as stop:
-        console.say(*stop.lines)
+        console.show(*stop.lines)
     except DeskError as failed:
         console.say(failed.sentence)
     except Interrupted:
