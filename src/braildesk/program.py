@@ -60,7 +60,7 @@ _NOT_ASKED = (
     Why.NO_LOG,
     Why.NO_LOCKS,
 )
-_CODE = re.compile(r"(?:braildesk: )?no ([0-9 ]+)")
+_CODE = re.compile(r"(?:braildesk: )?no ([0-9]+(?: -?[0-9]+)*)")
 #: What it answers of a whole book.
 _CHECKED = re.compile(rb"ok ([0-9]+)\n")
 

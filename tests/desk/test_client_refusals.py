@@ -557,6 +557,12 @@ DAMAGED = [
         "the table para, of paragraph 3",
     ),
     (
+        "UPDATE cache SET para = -3 WHERE para = 3",
+        6,
+        -3,
+        "the table cache, of paragraph -3",
+    ),
+    (
         "UPDATE mark SET stop = 22",
         5,
         1,
@@ -580,7 +586,7 @@ DAMAGED = [
 @pytest.mark.parametrize(
     ("statement", "table", "id_", "part"),
     DAMAGED,
-    ids=["book", "tab", "para", "mark", "cache", "corr2"],
+    ids=["book", "tab", "para", "negative", "mark", "cache", "corr2"],
 )
 def test_a_damaged_book_is_refused_with_what_is_wrong_in_it(
     shelf: Path, tmp_path: Path, statement: str, table: int, id_: int, part: str
