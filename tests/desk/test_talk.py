@@ -627,6 +627,20 @@ def test_a_talk_whose_book_can_not_be_opened_again_ends(
     assert "There is no file" in " ".join(ran.shown.split())
 
 
+def test_a_talk_goes_on_where_the_program_is_not_there_for_another_book(
+    moon: Path, tmp_path: Path
+) -> None:
+    program = Path(shutil.copy(braildesk.find(), tmp_path / "program"))
+    other = shutil.copy(moon, tmp_path / "other.braildesk")
+    talk = talk_about(moon, BRAILDESK=str(program))
+    talk.type("strike 1")
+    program.unlink()
+    said = " ".join(talk.type(f"compare {other}"))
+    assert said.endswith("isn't there, or may not be run.")
+    assert talk.type("strike 2")[-1] == "The book is at version 9."
+    assert talk.end("quit\r").status == 0
+
+
 def break_off(moon: Path, keys: str, number: signal.Signals | None) -> None:
     """Types keys at a talk, and ends it by a signal, or by closing the terminal."""
     talk = talk_about(moon)

@@ -4,7 +4,7 @@ from argparse import ArgumentParser, Namespace
 from contextlib import AbstractContextManager, ExitStack, nullcontext
 from pathlib import Path
 
-from braildesk import Lost, Refused
+from braildesk import DeskError, Lost
 from braildesk.protocol.requests import BY_NAME
 from braildesk.text.characters import visible
 
@@ -128,8 +128,6 @@ def _talk(conversation: Conversation, file: Path) -> Lost | None:
             console.show("Given up. Nothing was changed.")
         except Stop as stop:
             console.say(*stop.lines)
-        except Refused as refused:
-            console.say(refused.sentence)
         except Ended:
             return None
         except Lost as lost:
@@ -137,6 +135,8 @@ def _talk(conversation: Conversation, file: Path) -> Lost | None:
                 console.say("What was typed last may not be in the book:")
                 console.say(*map(visible, conversation.typed))
             return lost
+        except DeskError as failure:
+            console.say(failure.sentence)
 
 
 def _answer(conversation: Conversation, file: Path, line: bytes) -> None:
