@@ -103,7 +103,9 @@ def _new_book(
                 _make(asked, program, holding)
                 return
         _judge_name(asked.path, NotMade, "new book")
-        _followed(asked.path, NotMade, "made")
+        path = _followed(asked.path, NotMade, "made")
+        if _fill(asked, path, program, holding):
+            return
     except OSError as error:
         if error.errno == errno.ENAMETOOLONG:
             raise NotMade(
@@ -112,7 +114,6 @@ def _new_book(
             ) from None
         why = opening.OF_ROOM.get(error.errno or 0) or opening.why(asked)
         raise cannot_open(asked, why) from None
-    programs.make_book(asked.path, program)
     _carry_out(asked.path, program, holding)
 
 
@@ -137,27 +138,77 @@ def _make(
     target = real_path(asked.path)
     with made_beside(target) as made, ExitStack() as stack:
         place = stack.enter_context(place_of(target))
-        try:
-            begun = stack.enter_context(_temporary())
-            _begin(begun, asked, program, holding)
-            # by the program it would have a mode that no group may write by, whatever the umask says
-            with open(begun, "rb") as whole, create(made, 0o666) as file:
+        stack.enter_context(_failing_whole(asked))
+        begun = stack.enter_context(_temporary())
+        _begin(begun, asked, program, holding)
+        # by the program it would have a mode that no group may write by, whatever the umask says
+        with open(begun, "rb") as whole, create(made, 0o666) as file:
+            copy_bytes(whole.fileno(), file.fileno())
+            os.fsync(file.fileno())
+            written = os.fstat(file.fileno())
+        open_made(made, written).close()
+        put(made, place)
+
+
+def _fill(
+    asked: NewBook, path: str, program: StrPath | None, holding: Sequence[Command[Any]]
+) -> bool:
+    """Makes a book in an empty file, and says whether it was one; an empty book stays as it is.
+
+    The program makes and judges another file: a link that is put in the place of this one would lead
+    it to any of this user.
+    """
+    with held(BookFile(asked.path), os.O_RDWR) as file, ExitStack() as stack:
+        place = stack.enter_context(place_of(path))
+        stack.enter_context(_failing_whole(asked))
+        begun = stack.enter_context(_temporary())
+        if os.fstat(file.fileno()).st_size:
+            _judge_copy(file, begun, asked, program)
+            return False
+        _judge_log(asked.path, NotMade, "new book")
+        _begin(begun, NewBook(fspath(begun)), program, holding)
+        _judge_place(place, file)
+        with open(begun, "rb") as whole:
+            try:
                 copy_bytes(whole.fileno(), file.fileno())
                 os.fsync(file.fileno())
-                written = os.fstat(file.fileno())
-            open_made(made, written).close()
-            put(made, place)
-        except MayNotLast as failed:
-            raise _may_not_last(f"new book “{asked.path}”", failed, _GONE) from failed
-        except FileExistsError:
-            raise
-        except (Failed, OSError) as failed:
-            if isinstance(failed, OSError) and failed.errno in opening.OF_ROOM:
+            except OSError:
+                os.ftruncate(file.fileno(), 0)
                 raise
-            raise Failed(
-                f"The new book “{asked.path}” could not be written, and there is none:"
-                f" {_sentence(failed)}"
-            ) from failed
+    return True
+
+
+def _judge_copy(
+    file: BinaryIO, begun: Path, asked: NewBook, program: StrPath | None
+) -> None:
+    """Refuses a held file that isn't an empty book, by what the program says of a copy."""
+    try:
+        copy_held(file, log_path(asked.path), begun)
+    except OSError as error:
+        folder = f"{begun.parent.parent}, the temporary folder,"
+        raise Failed(f"{folder} takes no copy of what is there. {_ROOM}") from error
+    try:
+        programs.make_book(begun, program)
+    except Refused as refusal:
+        raise refused_as(replace(refusal.refusal, asked=asked)) from None
+
+
+@contextmanager
+def _failing_whole(asked: NewBook) -> Iterator[None]:
+    """Says of what fails while a book is made that there is none."""
+    try:
+        yield
+    except MayNotLast as failed:
+        raise _may_not_last(f"new book “{asked.path}”", failed, _GONE) from failed
+    except FileExistsError:
+        raise
+    except (Failed, OSError) as failed:
+        if isinstance(failed, OSError) and failed.errno in opening.OF_ROOM:
+            raise
+        raise Failed(
+            f"The new book “{asked.path}” could not be written, and there is none:"
+            f" {_sentence(failed)}"
+        ) from failed
 
 
 def _begin(

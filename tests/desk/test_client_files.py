@@ -1392,6 +1392,26 @@ def test_no_empty_file_becomes_a_book_through_a_link_of_another_user(
     braildesk.new_book(empty)
 
 
+@pytest.mark.parametrize("is_empty", [True, False])
+def test_a_link_put_in_place_of_a_file_leads_a_new_book_to_no_other(
+    tmp_path: Path, monkeypatch: pytest.MonkeyPatch, is_empty: bool
+) -> None:
+    place, other = tmp_path / "place", tmp_path / "other"
+    make_book = braildesk.program.make_book
+    place.write_bytes(b"" if is_empty else b"No book")
+    other.touch()
+
+    def swapped(path: Path, program: str | None, named: str | None = None) -> None:
+        place.unlink()
+        place.symlink_to(other)
+        make_book(path, program, named)
+
+    monkeypatch.setattr(braildesk.program, "make_book", swapped)
+    with pytest.raises(Failed if is_empty else CannotOpen):
+        braildesk.new_book(place)
+    assert (names(tmp_path), other.read_bytes()) == ({"place", "other"}, b"")
+
+
 @pytest.mark.parametrize("ending", ["-wal", "-shm", "-journal"])
 def test_no_book_gets_a_name_by_which_what_belongs_to_another_is_looked_for(
     book: Path, ending: str
