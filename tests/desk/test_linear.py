@@ -19,6 +19,7 @@ from zipfile import ZipFile
 import pytest
 
 from braildesk import Mark, Paragraph, Session, Style, Table
+from braildesk.desk.compare import OtherWords, differences
 from braildesk.desk.documents import contents
 from braildesk.desk.documents.contents import contents_of, missing
 from braildesk.desk.documents.kinds import ManuscriptKind, NoDocument, WhyNot
@@ -201,6 +202,15 @@ def test_passages_that_begin_alike_are_found_in_one_walk(
     assert missing(["a b c", "a b d", "b c"], ["x a b d", "a b c b"]) == [
         Missing("c", "b", "")
     ]
+
+
+def test_paragraphs_that_are_the_same_at_both_ends_are_compared_in_one_walk() -> None:
+    alike = ["The moon"] * 7_000
+    started = time.process_time()
+    book = enumerate([*alike, "is a", *alike])
+    found = differences([*book], [*alike, "is b", *alike])
+    assert [*found] == [OtherWords(7_000, 3, "a", "b")]
+    assert time.process_time() - started < SECONDS
 
 
 @pytest.mark.parametrize(

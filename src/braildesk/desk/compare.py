@@ -9,7 +9,7 @@ from collections import Counter
 from collections.abc import Iterator, Sequence
 from dataclasses import dataclass
 from difflib import SequenceMatcher
-from itertools import groupby
+from itertools import groupby, takewhile
 
 from braildesk import Session
 from braildesk.desk.readings import prints
@@ -103,8 +103,25 @@ def differences(
 
 def _blocks(
     some: Sequence[str], others: Sequence[str]
-) -> list[tuple[str, int, int, int, int]]:
-    return SequenceMatcher(None, some, others, autojunk=False).get_opcodes()
+) -> Iterator[tuple[str, int, int, int, int]]:
+    """The stretches of paragraphs that are the same, and those that aren't, as of SequenceMatcher.
+
+    It takes the square of the time where many are equal, so that it isn't asked of both ends.
+    """
+    front = _alike(some, others)
+    end = _alike(some[front:][::-1], others[front:][::-1])
+    stop, last = len(some) - end, len(others) - end
+    yield "equal", 0, front, 0, front
+    inner = SequenceMatcher(None, some[front:stop], others[front:last], autojunk=False)
+    for kind, *places in inner.get_opcodes():
+        start, after, first, then = (front + place for place in places)
+        yield kind, start, after, first, then
+    yield "equal", stop, len(some), last, len(others)
+
+
+def _alike(some: Sequence[str], others: Sequence[str]) -> int:
+    """How many are the same at the front of both."""
+    return len(list(takewhile(lambda pair: pair[0] == pair[1], zip(some, others))))
 
 
 def _words(paragraph: int, text: str) -> Iterator[Word]:
