@@ -17,6 +17,7 @@ _BARE = re.compile(r"\d{1,4}|[*†‡§]{1,4}")
 _MARKED = re.compile(r"[^\W_]{1,5}([ .\u00a0]?\d{1,4})?")
 _LETTER = re.compile(r"[^\W\d_]")
 _TEXTS = ("Para", "Plain", "Header")
+_BLANKS = ("Space", "SoftBreak", "LineBreak")
 #: How many names are looked at before a number.
 _NEAR = 3
 
@@ -37,6 +38,8 @@ class _Link:
     is_raised: bool
     #: Whether its text has words before it.
     is_after_words: bool
+    #: Whether a blank is right before it.
+    is_after_blank: bool
 
 
 class WaysBack:
@@ -52,7 +55,7 @@ class WaysBack:
         self._texts: dict[str, int] = {}
         self._place = self._text = self._raised = 0
         self._near: list[str] = []
-        self._has_words = False
+        self._has_words = self._is_after_blank = False
         self._walk(blocks)
 
     def _walk(self, blocks: list[Node]) -> None:
@@ -86,6 +89,9 @@ class WaysBack:
             self._near = [*self._near[1 - _NEAR :], name]
         if kind == "Str":
             self._has_words |= _LETTER.search(node["c"]) is not None
+            self._is_after_blank = node["c"][-1:].isspace()
+        elif kind in _BLANKS:
+            self._is_after_blank = True
         elif kind == "Superscript":
             self._raised += 1
         elif kind == "Link":
@@ -95,6 +101,7 @@ class WaysBack:
                 tuple(self._near),
                 self._raised > 0,
                 self._has_words,
+                self._is_after_blank,
             )
             if node["c"][2][0].startswith("#"):
                 first, _ = self._uses.get(target_of(node), (self._place, 0))
@@ -119,7 +126,10 @@ class WaysBack:
         # those of parts stand alone
         if its is None or not its.is_after_words:
             return False
-        if not (is_bare(label_of(link)) or self.is_marked(link)):
+        label = label_of(link)
+        # after a blank a number is a word, as that of a page or a chapter
+        is_apart = is_bare(label) and not (its.is_after_blank and label.isdigit())
+        if not (is_apart or self.is_marked(link)):
             return False
         start, stop = self._spans[id(part)]
         uses = (self._uses.get(name, (-1, -1)) for name in its.near)
