@@ -27,6 +27,7 @@ from braildesk.desk.documents.numbers import with_numbers
 from braildesk.desk.documents.numbers_of_odt import with_odt_numbers
 from braildesk.desk.documents.pages import readable_page
 from braildesk.desk.documents.reading import Missing
+from braildesk.desk.documents.rtf_fields import as_shown
 from braildesk.desk.find import Hit
 from braildesk.desk.kept_lines import overlap
 from braildesk.desk.layout import PageSize
@@ -75,6 +76,13 @@ def test_styles_that_are_based_on_each_other_are_gone_through_once(
     )
     started = time.process_time()
     assert with_numbers(path.read_bytes(), "*")[1] == []
+    assert time.process_time() - started < SECONDS
+
+
+def test_codes_of_fields_within_each_other_are_looked_at_once() -> None:
+    text = rb"{\rtf1 " + rb"{\fldinst DATE" * 200_000
+    started = time.process_time()
+    assert as_shown(text).count(rb"\fldinsx") == 200_000
     assert time.process_time() - started < SECONDS
 
 

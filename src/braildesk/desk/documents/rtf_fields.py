@@ -9,8 +9,8 @@ import re
 #: Where the code of a field begins, and what is no text of it.
 _CODE = re.compile(rb"(?<!\\)((?:\\\\)*+)(?:\\\*\s*)?\\fldinst(?![a-zA-Z])")
 _NO_TEXT = re.compile(rb"\\\*|\\[a-zA-Z]+(?:-?[0-9]+)? ?|[{}\"\r\n]")
-#: What begins or ends a group, and what only looks so.
-_GROUPS = re.compile(rb"\\.|[{}]", re.DOTALL)
+#: What begins or ends a group, and what only looks so; and where the code of another field begins.
+_GROUPS = re.compile(rb"\\fldinst|\\.|[{}]", re.DOTALL)
 _NAME = re.compile(rb"[A-Za-z]*")
 #: How much of a code has the name of its field.
 _FRONT = 2_000
@@ -41,9 +41,14 @@ def _kept(code: re.Match[bytes]) -> bytes:
 
 
 def _front(data: bytes, start: int) -> tuple[bytes, bool]:
-    """The front of the code of a field, and whether it is all of it, up to the end of its group."""
+    """The front of the code of a field, and whether it is all of it, up to the end of its group.
+
+    It ends where another one begins in it, so that none is looked at twice.
+    """
     depth = 0
     for found in _GROUPS.finditer(data, start, start + _FRONT):
+        if found[0] == rb"\fldinst":
+            return data[start : found.start()], False
         depth += (found[0] == b"{") - (found[0] == b"}")
         if depth < 0:
             return data[start : found.start()], True
