@@ -1542,6 +1542,10 @@ def test_a_field_with_the_name_of_a_document_has_that_and_not_that_of_its_copy(
             rf"{{\*\fldinst {' ' * 3_000}DATE}}",
             rf"{{\*\fldinsx {' ' * 3_000}DATE}}",
         ),
+        (r"{\*\fldinst PAGEREF a \\h}", r"{\*\fldinsx PAGEREF a \\h}"),
+        (r"{\*\fldinst REF a \\r}", r"{\*\fldinsx REF a \\r}"),
+        (r"{\*\fldinst DOCPROPERTY Title}", r"{\*\fldinsx DOCPROPERTY Title}"),
+        (r"{\*\fldinst MERGEREC}", r"{\*\fldinsx MERGEREC}"),
         # what LibreOffice knows better than the text, and print
         (r"{\*\fldinst HYPERLINK DATE}", r"{\*\fldinst HYPERLINK DATE}"),
         (r"{\*\fldinst SYMBOL 183}", r"{\*\fldinst SYMBOL 183}"),

@@ -1,7 +1,7 @@
 """Fields of RTF whose results are print, where LibreOffice would work them out anew.
 
-It shows what it knows of the file and of the day in place of what stands there, or nothing, and opens the file
-of a picture to which a field leads, wherever that is.
+It shows what it knows of the file, of the day and of other places in place of what stands there, or nothing, and
+opens the file of a picture to which a field leads, wherever that is.
 """
 
 import re
@@ -17,9 +17,9 @@ _FRONT = 2_000
 #: The code of a field that no program knows, and passes over.
 _UNKNOWN = rb"\1\\*\\fldinsx"
 _WORKED_OUT = frozenset(
-    b"AUTHOR COMMENTS CREATEDATE DATE EDITTIME FILENAME FILESIZE INCLUDEPICTURE INFO KEYWORDS LASTSAVEDBY"
-    b" NUMCHARS NUMPAGES NUMWORDS PAGE PRINTDATE REVNUM SAVEDATE SUBJECT TEMPLATE TIME TITLE USERADDRESS"
-    b" USERINITIALS USERNAME".split()
+    b"AUTHOR COMMENTS CREATEDATE DATE DOCPROPERTY EDITTIME FILENAME FILESIZE INCLUDEPICTURE INFO KEYWORDS"
+    b" LASTSAVEDBY MERGEREC NUMCHARS NUMPAGES NUMWORDS PAGE PAGEREF PRINTDATE REF REVNUM SAVEDATE SUBJECT"
+    b" TEMPLATE TIME TITLE USERADDRESS USERINITIALS USERNAME".split()
 )
 
 
