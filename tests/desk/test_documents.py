@@ -1546,6 +1546,11 @@ def test_a_field_with_the_name_of_a_document_has_that_and_not_that_of_its_copy(
         (r"{\*\fldinst REF a \\r}", r"{\*\fldinsx REF a \\r}"),
         (r"{\*\fldinst DOCPROPERTY Title}", r"{\*\fldinsx DOCPROPERTY Title}"),
         (r"{\*\fldinst MERGEREC}", r"{\*\fldinsx MERGEREC}"),
+        # it types what stands after another code in this one
+        (
+            r'{\*\fldinst IF {\field{\*\fldinst PAGE}{\fldrslt 3}} = 3 "y" "n"}',
+            r'{\*\fldinsx IF {\field{\*\fldinsx PAGE}{\fldrslt 3}} = 3 "y" "n"}',
+        ),
         # what LibreOffice knows better than the text, and print
         (r"{\*\fldinst HYPERLINK DATE}", r"{\*\fldinst HYPERLINK DATE}"),
         (r"{\*\fldinst SYMBOL 183}", r"{\*\fldinst SYMBOL 183}"),

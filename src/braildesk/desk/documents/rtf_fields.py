@@ -43,12 +43,12 @@ def _kept(code: re.Match[bytes]) -> bytes:
 def _front(data: bytes, start: int) -> tuple[bytes, bool]:
     """The front of the code of a field, and whether it is all of it, up to the end of its group.
 
-    It ends where another one begins in it, so that none is looked at twice.
+    There is none of one in which another one begins: LibreOffice takes what stands after that for print.
     """
     depth = 0
     for found in _GROUPS.finditer(data, start, start + _FRONT):
         if found[0] == rb"\fldinst":
-            return data[start : found.start()], False
+            return b"", False
         depth += (found[0] == b"{") - (found[0] == b"}")
         if depth < 0:
             return data[start : found.start()], True
