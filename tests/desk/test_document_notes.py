@@ -205,12 +205,15 @@ CASES = (
     Case(
         "numbers of pages and chapters, which are words of their texts",
         '<p>The moon, page <a id="k1" href="#p12">12</a>; chapter\n<a id="k2" href="#d2">2</a>;'
-        ' see&nbsp;<a id="k3" href="#d3">3</a>, far <a id="k4" href="#d4">*</a>.</p><p id="p12">The'
+        ' see&nbsp;<a id="k3" href="#d3">3</a>, far <a id="k4" href="#d4">*</a> <a id="k5"'
+        ' href="#d5"><sup>5</sup></a>.</p><p id="p12">The'
         ' moon. <a href="#k1">Up</a></p><div id="d2"><p>Two.</p><p><a href="#k2">Up</a></p></div>'
-        '<p id="d3">Three. <a href="#k3">Up</a></p><p id="d4">Very. <a href="#k4">\u21a9</a></p>',
+        '<p id="d3">Three. <a href="#k3">Up</a></p><p id="d4">Very. <a href="#k4">\u21a9</a></p>'
+        '<p id="d5">Quite. <a href="#k5">\u21a9</a></p>',
         (
-            "The moon, page 12; chapter 2; see 3, far [*].",
+            "The moon, page 12; chapter 2; see 3, far [*] [5].",
             "[*: Very.]",
+            "[5: Quite.]",
             "The moon. Up",
             "Two.",
             "Up",

@@ -117,6 +117,7 @@ class WaysBack:
         """Whether a link has nothing but a number or some letters, and is raised or in brackets."""
         label, its = label_of(link), self._links.get(id(link))
         is_raised = its is not None and its.is_raised
+        is_raised |= [each["t"] for each in link["c"][1]] == ["Superscript"]
         is_apart = is_raised or "".join(texts(link["c"][1])).strip().startswith("[")
         return is_apart and bool(_MARKED.fullmatch(label) or is_bare(label))
 
