@@ -1874,6 +1874,7 @@ def test_quotations_on_a_page_have_their_marks_whatever_ends_them() -> None:
             ["\u201c[A]\u201d", "on"],
         ),
         ("<template><q>One</template><p>on</q>", ["on"]),
+        ("<q><script>one</script><style>i{}</style>One</q>", ["\u201cOne\u201d"]),
     ],
 )
 def test_a_quotation_of_paragraphs_has_its_marks_beside_its_words(

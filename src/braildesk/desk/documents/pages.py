@@ -208,7 +208,8 @@ class _Rewriting(Tags):
             self._addresses.add(saved[1])
 
     def handle_data(self, data: str) -> None:
-        if data.strip():
+        # no script or sheet is print
+        if data.strip() and not self.cdata_elem:
             front = self._start() + len(data) - len(data.lstrip())
             self._show(front, front + len(data.strip()))
 
