@@ -1874,6 +1874,10 @@ def test_quotations_on_a_page_have_their_marks_whatever_ends_them() -> None:
             ["\u201c[A]\u201d", "on"],
         ),
         ("<template><q>One</template><p>on</q>", ["on"]),
+        (
+            "<p>L\u2019<q>ami</q><q>of</q>one",
+            ["L\u2019\u201cami\u201d\u201cof\u201done"],
+        ),
         ("<q><script>one</script><style>i{}</style>One</q>", ["\u201cOne\u201d"]),
     ],
 )

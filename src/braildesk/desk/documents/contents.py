@@ -33,6 +33,7 @@ from braildesk.desk.documents.markup import (
 )
 from braildesk.desk.documents.notes import leads_back
 from braildesk.desk.documents.package import Package
+from braildesk.desk.documents.quotations import QUOTATION
 from braildesk.desk.documents.reading import Loss, LossKind, Missing, plain, whole
 from braildesk.desk.documents.sheets import (
     PageElement,
@@ -684,6 +685,9 @@ class _Html(Tags):
         self._part(tag)
         if tag == "a" and "#" in (dict(attrs).get("href") or ""):
             self._add(_SEAM)
+        elif tag == QUOTATION:
+            # its marks part words
+            self._add("\u201c")
         if tag in ("rt", "rp", "rb", "rtc"):
             self._end_reading()
             is_within = tag == "rt" and self._tags["ruby"] > 0
@@ -707,6 +711,8 @@ class _Html(Tags):
         self._part(tag)
         if tag == "a":
             self._add(_SEAM)
+        elif tag == QUOTATION:
+            self._add("\u201d")
         if tag in ("rt", "ruby"):
             self._end_reading()
 
