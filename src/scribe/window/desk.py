@@ -90,6 +90,13 @@ class New:
 class Desk:
     """A book that is open in a window."""
 
+    #: The page and line are said of marks and words that are gone to.
+    says_pages = False
+    #: The book can't be worked on, since its session ended and none could be opened.
+    is_closed = False
+    #: How the session ended, in sentences, until the book is open again.
+    loss = ""
+
     def __init__(
         self,
         path: Path,
@@ -115,12 +122,6 @@ class Desk:
         self.is_ending = False  #: By a signal or a fault, so that what is typed waits.
         self.in_hand: int | None = None
         self.is_ascii = False
-        #: The page and line are said of marks and words that are gone to.
-        self.says_pages = False
-        #: The book can't be worked on, since its session ended and none could be opened.
-        self.is_closed = False
-        #: How the session ended, in sentences, until the book is open again.
-        self.loss = ""
         self._saved: Path | None = None  # where all of a book that is gone was saved
         self.acts: dict[str, Callable[[], None]] = {}
         self._left: LeftAt | None = None

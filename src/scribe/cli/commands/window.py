@@ -43,11 +43,7 @@ def add_parser(subparsers: Subparsers) -> ArgumentParser:
 
 def run(arguments: Namespace, console: Console) -> Status:
     """Shows the book until its window is closed."""
-    if not any(os.environ.get(name) for name in _SCREENS):
-        raise Stop(
-            "scribe window needs a screen with windows, and none is known here (DISPLAY and"
-            " WAYLAND_DISPLAY aren't set). scribe edit shows a book in a terminal."
-        )
+    _check_screen()
     try:
         # imported here, since only this command needs PyQt6
         from scribe.window.application import Application, NoBook
@@ -87,6 +83,15 @@ def _closed(application: "Application", console: Console) -> Status:
     if application.waits:
         console.say(application.waits)
     return Status.DONE
+
+
+def _check_screen() -> None:
+    """Raises `Stop` where no screen is known on which a window can be shown."""
+    if not any(os.environ.get(name) for name in _SCREENS):
+        raise Stop(
+            "scribe window needs a screen with windows, and none is known here (DISPLAY and"
+            " WAYLAND_DISPLAY aren't set). scribe edit shows a book in a terminal."
+        )
 
 
 def _left(sentence: str) -> None:
