@@ -170,6 +170,37 @@ def test_what_stands_between_lines_of_hyphens_in_something_else_is_print(
     assert not found.missing
 
 
+@pytest.mark.parametrize(
+    "text, missing",
+    [
+        # a table of one column, of which the front of each row is left out
+        ("---\na: b\n...\n\nOne.\n\n  ---\nthree four\n  ---\n", ["three"]),
+        (
+            "---\na: b\n...\n\n  ---\nfar off\n\nEnd\n\n  ---\nthree\n  ---\n",
+            ["far", "End", "three"],
+        ),
+        ("[moon]: sea\n[moon]: far.md\n\nA [moon].\n", ["sea"]),
+    ],
+)
+def test_words_that_stand_nowhere_in_what_markdown_is_read_as_are_missing(
+    text: str, missing: list[str]
+) -> None:
+    found = read(text)
+    assert missing == [
+        each.words for each in found.missing if each.words not in ("a", "b")
+    ]
+
+
+def test_what_is_no_print_of_markdown_is_not_missing() -> None:
+    text = (
+        "---\ntitle: It's far\nlang: en\n---\n\n# The *moo*n {#m .c k=v}\n\n<!-- no print -->\n\n"
+        "::: {.note}\nIt's `a_b`'s **un**known\\_name [there](<a b.md> 'At sea') &amp; <u class=x>here</u>.\n:::\n\n"
+        "```{.c n=1}\nfoo('x')\n```\n\n1. one\n1. two\n\n[sea][k] ![far](a.png 'Far off'){width=50%}\n\n"
+        "| on\n| off\n\n[k]: s.md 'So'\n\nTable: All\n\na | b\n--|--\nc | d\n\nH~2~O $\\frac{a}{b}$ <x@y.z>\n"
+    )
+    assert not read(text).missing
+
+
 def test_a_note_to_which_several_numbers_lead_is_typed_once() -> None:
     found = read(
         "One[^a], two[^b] and^[Ibid.] again[^a].\n\nThree[^a]^[Ibid.][^c][^d].\n\n"

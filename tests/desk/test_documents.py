@@ -15,7 +15,13 @@ from xml.etree import ElementTree
 
 import pytest
 
-from braildesk.desk.documents import contents, kinds, pandoc, styles_of_odt
+from braildesk.desk.documents import (
+    contents,
+    kinds,
+    markdown_words,
+    pandoc,
+    styles_of_odt,
+)
 from braildesk.desk.documents.contents import missing
 from braildesk.desk.documents.document import read_document
 from braildesk.desk.documents.kinds import (
@@ -669,6 +675,7 @@ def test_what_markdown_takes_for_the_address_of_a_link_is_missing_if_it_is_none(
     assert found.missing == (
         Missing("Anna I don't know it", "", ""),
         Missing("I go", "", "too"),
+        Missing("Yes", "", ""),
     )
 
 
@@ -1717,6 +1724,7 @@ def test_signs_of_markdown_that_are_very_many_take_little_time(line: str) -> Non
     contents.keys_in_notes(text)
     contents.addresses_of(text)
     contents.rows_of(text)
+    [*markdown_words.lines_of(text, [text])]
     assert of_processor() - began < SECONDS
 
 

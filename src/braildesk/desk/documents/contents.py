@@ -238,7 +238,7 @@ def missing(passages: Iterable[str], texts: Iterable[str]) -> list[Missing]:
     A passage that stands whole in what is left of the texts is there, and that part is used up. The
     others are compared word by word with what is left then.
     """
-    left = Counter(tuple(_words(text)) for text in texts)
+    left = Counter(tuple(words_of(text)) for text in texts)
     others = []
     for passage in passages:
         forms = _forms(passage)
@@ -257,8 +257,8 @@ def missing(passages: Iterable[str], texts: Iterable[str]) -> list[Missing]:
 
 def _forms(passage: str) -> list[tuple[str, ...]]:
     """The words of a passage, and those that it has if its links are parted from words."""
-    forms = [tuple(_words(passage.replace(_SEAM, "")))]
-    return [*forms, tuple(_words(passage))] if _SEAM in passage else forms
+    forms = [tuple(words_of(passage.replace(_SEAM, "")))]
+    return [*forms, tuple(words_of(passage))] if _SEAM in passage else forms
 
 
 def _likest(forms: Iterable[Sequence[str]], there: Counter[str]) -> list[str]:
@@ -338,7 +338,8 @@ def _missing(words: Sequence[str], there: Counter[str]) -> Iterator[Missing]:
         start = stop + 1
 
 
-def _words(text: str) -> list[str]:
+def words_of(text: str) -> list[str]:
+    """The words of a text as they are compared."""
     return _WORD.findall(plain(unicodedata.normalize("NFC", text)))
 
 

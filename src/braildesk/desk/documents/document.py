@@ -2,7 +2,7 @@
 
 Documents are read by pandoc (`pages`, `package`, `numbers`, `word_print`, `numbers_of_odt`,
 `tables_of_odt`, `pandoc`, `tree`, `notes`). What it leaves out without a sign is found by comparing the
-words of its paragraphs with those that the file itself has (`contents`).
+words of its paragraphs with those that the file itself has (`contents`, `markdown_words`).
 
 RTF and DOC are turned into DOCX by LibreOffice first: pandoc loses print of the one without a word, and
 doesn't read the other. ODT is where pandoc loses words of it, as those of a table of contents, or
@@ -11,7 +11,7 @@ numbers, if fewer are lost so: the text boxes that LibreOffice makes of frames a
 
 from dataclasses import replace
 
-from braildesk.desk.documents import contents, pages, pandoc
+from braildesk.desk.documents import contents, markdown_words, pages, pandoc
 from braildesk.desk.documents.contents import Contents
 from braildesk.desk.documents.kinds import (
     ManuscriptKind,
@@ -126,6 +126,8 @@ def _read(
             unmarked = repeated(tree, unmarked)
         noted = with_notes(tree)
         beside = said_beside(tree) if kind is ManuscriptKind.MARKDOWN else []
+        is_text = kind is ManuscriptKind.MARKDOWN
+        texts = markdown_words.texts_of(tree, data.decode()) if is_text else []
     except RecursionError as fault:
         raise NoDocument(WhyNot.TOO_DEEP) from fault
     except FAULTS as fault:
@@ -144,6 +146,8 @@ def _read(
         passages = [*passages, *contents.notes_of(text, keys)]
         passages += contents.addresses_of(text) + contents.rows_of(text)
     missing = contents.missing(passages, [part.text for part in found.parts])
+    if kind is ManuscriptKind.MARKDOWN:
+        missing += markdown_words.missing_of(data.decode(), texts, missing)
     missing += [Missing(text, "", "") for text in beside]
     parts = tuple(each for part in found.parts for each in short_enough(part))
     losses = (*found.losses, *own.numbers, *_too_long(found.parts), *own.losses)
