@@ -234,6 +234,25 @@ def test_a_box_of_a_form_in_a_text_box_is_not_said_to_be_typed(tmp_path: Path) -
     assert found.losses == ()
 
 
+def test_characters_of_a_font_of_symbols_are_symbols(tmp_path: Path) -> None:
+    def lettered(font: str, text: str) -> str:
+        return run(text, f'<w:rFonts w:ascii="{font}" w:hAnsi="{font}"/>')
+
+    body = paragraph(
+        run("One "),
+        lettered("Symbol", "a\uf062 \xb3"),
+        run(" two "),
+        lettered("Wingdings", "\xfc\uf078"),
+        run("three "),
+        lettered("Sea Symbol", "a"),
+    )
+    found = read_manuscript(docx(tmp_path / "a.docx", body))
+    assert found.texts == ["One \u03b1\u03b2 \u2265 two three a"]
+    assert found.missing == (
+        Missing("Wingdings_F0FC Wingdings_F078", "One two", "three a"),
+    )
+
+
 def ruby(base: str, reading: str) -> str:
     """Characters with their reading, which stands first in the file."""
     return (

@@ -48,7 +48,7 @@ from braildesk.desk.manuscript import UnreadableText
 #: How many characters are shown of a table of contents, of a page, or of an item of a list.
 _SHOWN = 60
 _WORD = re.compile(r"\w+(?:[’'\u2010\u2011-]\w+)*")
-_NUMBERED = re.compile(r"(.*[^\W\d_])(\d{1,4})")
+_NUMBERED = re.compile(r"([^_]*[^\W\d_])(\d{1,4})")
 #: The numbers of lists that pandoc knows, by what a list says of its type; and those of style sheets.
 _TYPES = {
     "1": "decimal",

@@ -42,6 +42,12 @@ _HEADING = re.compile("heading [1-9]", re.IGNORECASE)
 _WIDEST = 1_000
 #: How many styles are looked at of those that one is based on.
 _DEEPEST = 50
+#: Fonts in which characters show symbols, which some programs write as text.
+_SYMBOLIC = re.compile(
+    r"Symbol|Wingdings( [23])?|Webdings|(ITC )?Zapf ?Dingbats|Monotype Sorts"
+)
+#: The characters that do, whose last two digits say which symbol they show.
+_PLACES = re.compile("[ -\xff\uf020-\uf0ff]+")
 #: How many characters are shown of a paragraph.
 _SHOWN = 60
 
@@ -50,7 +56,12 @@ def texts_ahead(root: Element) -> dict[int, str]:
     """What stands in XML ahead of elements of a part, by their places in it; and see `replaced`."""
     found: dict[int, str] = {}
     symbols, grids = _symbols(root), dict(_grids(root))
+    lettered = dict(_lettered(root))
     for place, element in enumerate(root.iter()):
+        if id(element) in lettered:
+            found[place] = "".join(
+                _symbol(each, lettered[id(element)]) for each in element.text or ""
+            )
         if id(element) in symbols:
             found[place] = _text(symbols[id(element)])
         if id(element) in grids:
@@ -67,7 +78,7 @@ def texts_ahead(root: Element) -> dict[int, str]:
 
 def replaced(root: Element) -> frozenset[int]:
     """The places of elements that are left out, since a text ahead of them is all that they have."""
-    symbols = _symbols(root)
+    symbols = {*_symbols(root), *dict(_lettered(root))}
     return frozenset(
         place
         for place, element in enumerate(root.iter())
@@ -135,6 +146,26 @@ def _symbols(root: Element) -> dict[int, str]:
             is_crossed = checked is not None and checked.get(f"{_W14}val") not in _OFF
             found[id(symbols[0])] = _CROSSED if is_crossed else _EMPTY
     return found
+
+
+def _lettered(root: Element) -> Iterator[tuple[int, str]]:
+    """The fonts of texts whose characters stand for symbols, by the identities of these."""
+    for run in root.iter(_RUN):
+        fonts = run.find(f"{_W}rPr/{_W}rFonts")
+        said = {} if fonts is None else fonts.attrib
+        font = said.get(f"{_W}ascii", "")
+        if _SYMBOLIC.fullmatch(font) and said.get(f"{_W}hAnsi", font) == font:
+            for text in run.iterfind(f"{_W}t"):
+                if _PLACES.fullmatch(text.text or ""):
+                    yield id(text), font
+
+
+def _symbol(character: str, font: str) -> str:
+    """A character of such a font as Word writes it."""
+    place = ord(character) & 0xFF
+    if place == ord(" "):
+        return _text(" ")
+    return f'<w:sym w:font="{font}" w:char="F0{place:02X}"/>'
 
 
 def _grids(root: Element) -> Iterator[tuple[int, str]]:
