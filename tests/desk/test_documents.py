@@ -1582,6 +1582,32 @@ def test_fields_of_rtf_that_say_something_of_a_file_are_typed_as_they_stand_ther
     assert seen.read_text() == text.format(kept)
 
 
+@pytest.mark.parametrize(
+    "text, whole",
+    [
+        (r"{\rtf1 {one}} two {three} four}", r"{\rtf1 {one} two {three} four}"),
+        (r"{\rtf1 one}}} two {three", r"{\rtf1 one two {three}}"),
+        (r"{\rtf1 one\}\bin3 }}} two}", r"{\rtf1 one\}\bin3 }}} two}"),
+        ("{\\rtf1 one}\r\n\0", "{\\rtf1 one}\r\n\0"),
+        (r"{\rtf1 one", r"{\rtf1 one"),
+    ],
+)
+def test_what_stands_in_rtf_after_the_end_of_its_group_is_read(
+    tmp_path: Path, programs: Path, text: str, whole: str
+) -> None:
+    made = docx(tmp_path / "made.docx", paragraph(run("Made")))
+    seen = tmp_path / "seen.rtf"
+    program(
+        programs,
+        "soffice",
+        f'cp "$7" {seen}',
+        'mkdir -p "$6"',
+        f'cp {made} "$6/manuscript.docx"',
+    )
+    read_document(text.encode(), ManuscriptKind.RTF)
+    assert seen.read_bytes() == whole.encode()
+
+
 def test_odt_is_taken_as_it_loses_fewer_words(tmp_path: Path, programs: Path) -> None:
     made = docx(tmp_path / "made.docx", paragraph(run("One two")))
     program(programs, "soffice", 'mkdir -p "$6"', f'cp {made} "$6/manuscript.docx"')

@@ -33,6 +33,7 @@ from braildesk.desk.documents.kinds import (
     unpacked,
 )
 from braildesk.desk.documents.rtf_fields import as_shown
+from braildesk.desk.documents.rtf_groups import as_one_group
 from braildesk.desk.manuscript import UnreadableText
 
 #: How many seconds a program is waited for that has less than a hundredth of them of a processor: it waits for
@@ -119,7 +120,9 @@ def as_docx(data: bytes, kind: ManuscriptKind, name: str) -> bytes:
     with tempfile.TemporaryDirectory() as folder:
         # no text has that name, nor the folder's
         source = Path(folder, f"{Path(folder).name}.{kind.value}")
-        source.write_bytes(as_shown(data) if kind is ManuscriptKind.RTF else data)
+        source.write_bytes(
+            as_shown(as_one_group(data)) if kind is ManuscriptKind.RTF else data
+        )
         profile = Path(folder, "profile")
         settings = profile / "user" / "registrymodifications.xcu"
         settings.parent.mkdir(parents=True)

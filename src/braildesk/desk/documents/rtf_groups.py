@@ -1,0 +1,25 @@
+"""Groups of RTF, of which LibreOffice reads nothing after the end of the outermost one."""
+
+import re
+
+#: What begins or ends a group, and what only looks so; of the bytes of a picture, how many they are.
+_SIGNS = re.compile(rb"\\bin([0-9]{1,9}) ?|\\.|[{}]", re.DOTALL)
+#: What may stand after the end of a text and is none.
+_NOTHING = b"\0\x1a \t\r\n}"
+
+
+def as_one_group(data: bytes) -> bytes:
+    """A text in RTF whose outermost group ends with the text, not before words of it."""
+    last = len(data.rstrip(_NOTHING))
+    pieces: list[bytes] = []
+    depth = start = place = 0
+    while found := _SIGNS.search(data, place):
+        place = found.end() + int(found[1] or 0)
+        if found.start() >= last:
+            break
+        if found[0] == b"}" and depth == 1:
+            pieces.append(data[start : found.start()])
+            start = found.end()
+        elif found[0] in b"{}":
+            depth += 1 if found[0] == b"{" else -1
+    return b"".join([*pieces, data[start:last], b"}" * depth]) if pieces else data
