@@ -1473,7 +1473,7 @@ def test_rtf_and_doc_are_what_libreoffice_makes_of_them(
     )
     program(programs, "soffice", 'mkdir -p "$6"', f'cp {made} "$6/manuscript.docx"')
     for data, kind in (
-        (b"{\\rtf1 moon}", ManuscriptKind.RTF),
+        (b"{\\rtf1 Made}", ManuscriptKind.RTF),
         (WORD, ManuscriptKind.DOC),
     ):
         found = read_document(data, kind)
@@ -1606,6 +1606,40 @@ def test_what_stands_in_rtf_after_the_end_of_its_group_is_read(
     )
     read_document(text.encode(), ManuscriptKind.RTF)
     assert seen.read_bytes() == whole.encode()
+
+
+@pytest.mark.parametrize(
+    "text, missing",
+    [
+        (r"{\rtf1 one {\b t}wo\par three}", ["three"]),
+        (r"{\rtf1\ansicpg1251 one two \'ec\'ee\'f0\'e5}", ["\u043c\u043e\u0440\u0435"]),
+        (r"{\rtf1\uc2 one {\uc1 \u945 ?}\u946 \'bfb two}", ["\u03b1\u03b2"]),
+        (r"{\rtf1\ansicpg9 one two \u-10179?\u-8704? don\rquote t}", ["don\u2019t"]),
+        (
+            r"{\rtf1{\fonttbl{\f1\fcharset2 Symbol;}{\f2\fcharset161 Sea;}}one {\f1 abc} two {\f2\'e1}}",
+            ["\u03b1"],
+        ),
+        (r"{\rtf1 one{\footnote sea}two {\upr{moo?n}{\*\ud{moon}}}}", ["sea", "moon"]),
+        (
+            r"{\rtf1{\info{\title sea}}{\*\moon sea}{\header sea}{\pict 00\bin3 }a}}one"
+            r"{\field{\*\fldinst SEA}{\fldrslt  two}}{\listtext 1.}{\*\shpinst{\sp{\sv sea}}{\shptxt moon}}}",
+            ["moon"],
+        ),
+        (
+            r"{\rtf1 one\~two \{moon\_sea\}\line far\
+off}",
+            ["moon\u2011sea", "far", "off"],
+        ),
+    ],
+)
+def test_words_of_rtf_that_libreoffice_leaves_out_are_missing(
+    tmp_path: Path, programs: Path, text: str, missing: list[str]
+) -> None:
+    made = docx(tmp_path / "made.docx", paragraph(run("one two")))
+    program(programs, "soffice", 'mkdir -p "$6"', f'cp {made} "$6/manuscript.docx"')
+    found = read_document(text.encode(), ManuscriptKind.RTF)
+    assert found.texts == ["one two"]
+    assert [each.words for each in found.missing] == missing
 
 
 def test_odt_is_taken_as_it_loses_fewer_words(tmp_path: Path, programs: Path) -> None:
