@@ -240,6 +240,48 @@ def test_whole_words_and_other_capitals_are_chosen_in_the_list(
     )
 
 
+@pytest.mark.parametrize("keys", ["ww", "cc", "c", "cwwc"])
+def test_what_was_left_stays_left_in_other_lists_of_the_same_words(
+    tides: Path, sit: Sit, keys: str
+) -> None:
+    sat = sit(tides)
+    asked(sat, "tide", "the flood")
+    # the third is a part of a word, and the text before it becomes longer
+    sat.press("down", "n", "down", "down", "down", "down", "n", "y", *keys)
+    pages = sat.state.pages
+    assert pages is not None
+    assert [line for line in pages.lines if ", left, " in line] == [
+        f"Place 1 of {len(pages.lines) // 2}, left, paragraph 1: The [tide]",
+        f"Place {len(pages.lines) // 2} of {len(pages.lines) // 2}, left, paragraph 2:"
+        " …and the Tide goes; no [tide]way is as it was.",
+    ]
+    sat.press("a", "escape")
+    sat.desk.close()
+    gone = TIDES.replace("The tide", "The the flood")
+    if keys == "c":
+        gone = gone.replace("the Tide", "the The flood")
+    assert prints(tides) == ["The tide", gone]
+
+
+def test_what_was_put_in_is_no_place_of_other_lists_of_the_same_words(
+    tides: Path, sit: Sit
+) -> None:
+    sat = sit(tides)
+    asked(sat, "tide", "tides")
+    sat.press("down", "y", "y", "y", "c")
+    assert sat.state.pages and sat.state.pages.lines == (
+        "Place 1 of 1, paragraph 2: …tides comes, and the [Tide] goes; no tidesway is as…",
+        "After: The tides comes, and the [Tides] goes; no tidesway is as it was.",
+    )
+    sat.press("a", "escape")
+    asked(sat, "comes", "comes in")
+    sat.press("down", "y", "c")
+    assert sat.state.message == "There are no more places to change."
+    sat.desk.close()
+    tides_come = TIDES.replace("tide", "tides").replace("Tide", "Tides")
+    assert prints(tides) == ["The tides", tides_come.replace("comes", "comes in")]
+
+
 def test_words_that_stand_nowhere_are_said_and_those_with_other_capitals_are_shown(
     tides: Path, sit: Sit
 ) -> None:
@@ -521,3 +563,23 @@ def test_of_a_change_that_was_cut_short_no_earlier_one_is_taken_back(
     taken = "Taken back: the newest correction of paragraph 1."
     assert sat.state.message == taken
     assert sat.state.openings[1].words == "O The tide"
+
+
+@pytest.mark.parametrize("left", ["first", "second"])
+def test_what_was_left_stays_left_after_a_change_that_was_cut_short(
+    tides: Path, sit: Sit, monkeypatch: pytest.MonkeyPatch, left: str
+) -> None:
+    # the session ends before the second of the places is changed
+    for name, value in standing_in(3, READ, KILL_PROGRAM).items():
+        monkeypatch.setenv(name, value)
+    sat = sit(tides)
+    sat.press("enter", "O", " ", "enter")
+    asked(sat, "tide", "the sea")
+    sat.press("down", *(["down", "down"] if left == "second" else []), "n", "a")
+    assert "was stopped after 1 change. The places are listed" in sat.state.message
+    sat.press("a", "escape")
+    sat.desk.close()
+    places = [("O The tide", "O The the sea"), ("The tide", "The the sea")]
+    first, second = (places[n][(left == "second") is (n == 0)] for n in (0, 1))
+    gone = TIDES.replace("The tide", second).replace("tideway", "the seaway")
+    assert prints(tides) == [first, gone]

@@ -77,13 +77,6 @@ ByPages = ShowPage | ListMarks | ListHeadings | ToPage | SayPage
 
 
 @dataclass(frozen=True)
-class FindPlaces:
-    """Looks at the places where words stand that others may come in place of."""
-
-    wanted: Replacement
-
-
-@dataclass(frozen=True)
 class Place:
     """A place where words stand that are to be changed, and what became of it."""
 
@@ -98,12 +91,29 @@ class Place:
 
 
 @dataclass(frozen=True)
+class FindPlaces:
+    """Looks at the places where words stand that others may come in place of."""
+
+    wanted: Replacement
+    #: The places of another list of these words that were changed or left.
+    answered: tuple[Place, ...] = ()
+
+
+@dataclass(frozen=True)
 class ChangePlaces:
     """Changes the places of a list that are open, or one of them, counted from 0."""
 
     wanted: Replacement
     places: tuple[Place, ...]
     nth: int | None = None
+    #: Places of other lists of these words that were changed or left, and aren't in this one.
+    elsewhere: tuple[Place, ...] = ()
+
+    @property
+    def answered(self) -> tuple[Place, ...]:
+        """The places that were changed or left, in this list or in others."""
+        its = (each for each in self.places if not each.is_open)
+        return (*self.elsewhere, *its)
 
     @property
     def open_places(self) -> tuple[Proposal, ...]:

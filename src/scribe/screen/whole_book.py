@@ -3,7 +3,7 @@
 Both are lists that are looked at first, and change the book only by a key in them.
 """
 
-from collections.abc import Callable
+from collections.abc import Callable, Sequence
 from dataclasses import replace
 from typing import Any
 
@@ -11,11 +11,13 @@ from braildesk import Mark, Refused, Session, requests
 from braildesk.desk.change import Change, change_place
 from braildesk.desk.change_all import (
     Passed,
+    Proposal,
     Replacement,
     change_proposed,
     moved_by,
     proposals,
 )
+from braildesk.desk.correction import smallest_correction
 from braildesk.desk.volume_plan import (
     as_they_are,
     planned,
@@ -26,6 +28,7 @@ from braildesk.desk.volume_plan import (
 
 from braildesk.protocol.requests import Command
 from braildesk.text.excerpt import excerpt_lines
+from braildesk.text.spans import Span
 
 from scribe.screen import pager
 from scribe.screen.actions import (
@@ -111,10 +114,12 @@ def _of_places(
             return state.saying(_NONE_LEFT), None
         case "w":
             other = not wanted.is_of_words
-            return state, FindPlaces(replace(wanted, is_of_words=other))
+            wanted = replace(wanted, is_of_words=other)
+            return state, FindPlaces(wanted, offer.answered)
         case "c":
             other = not wanted.is_of_any_case
-            return state, FindPlaces(replace(wanted, is_of_any_case=other))
+            wanted = replace(wanted, is_of_any_case=other)
+            return state, FindPlaces(wanted, offer.answered)
         case "escape" | "q" if offer.open_places:
             return replace(state, pages=pages.under).saying(_STAY), None
     target = pager.target(pages, state.size)
@@ -158,7 +163,7 @@ def done(session: Session, state: State, action: OfWholeBook, tell: Report) -> S
     """The state after something was looked for in the whole book, or was changed in it."""
     match action:
         case FindPlaces():
-            return _found(session, state, action.wanted)
+            return _found(session, state, action.wanted, action.answered)
         case ChangePlaces(nth=None):
             return _all_changed(session, state, action, tell)
         case ChangePlaces(nth=nth):
@@ -169,7 +174,9 @@ def done(session: Session, state: State, action: OfWholeBook, tell: Report) -> S
             return _volumes_set(session, state, action, tell)
 
 
-def _found(session: Session, state: State, wanted: Replacement) -> State:
+def _found(
+    session: Session, state: State, wanted: Replacement, answered: Sequence[Place]
+) -> State:
     """The list of the places where words stand, also with other capitals if there are no others."""
     found, said = proposals(session, wanted), ""
     if not found and not (wanted.is_of_any_case or state.pages):
@@ -178,19 +185,71 @@ def _found(session: Session, state: State, wanted: Replacement) -> State:
             wanted, said = replace(wanted, is_of_any_case=True), _OF_CAPITALS
     if not found:
         return state.saying(nowhere(session, wanted, "."))
-    offer = ChangePlaces(wanted, tuple(map(Place, found)))
-    return _listed(state, offer, 0).saying(said)
+    offer = _offer_of(wanted, found, answered)
+    if not offer.places:
+        return state.saying(_NONE_LEFT)
+    return _listed_from_open(state, offer).saying(said)
 
 
 def listed_anew(session: Session, state: State, offer: ChangePlaces) -> State:
     """The list of the places of words in a book that is another one now."""
-    if takes_long(state, FindPlaces(offer.wanted)):
+    answered = [_as_now(session, each) for each in offer.answered]
+    if takes_long(state, FindPlaces(offer.wanted)) or None in answered:
         return state.saying_too(_CLOSED)
     found = proposals(session, offer.wanted)
-    if not found:
+    offer = _offer_of(offer.wanted, found, list(filter(None, answered)))
+    if not offer.places:
         return state.saying_too(_NONE_LEFT)
-    listed = _listed(state, ChangePlaces(offer.wanted, tuple(map(Place, found))), 0)
-    return listed.saying_too(_ANEW)
+    return _listed_from_open(state, offer).saying_too(_ANEW)
+
+
+def _as_now(session: Session, its: Place) -> Place | None:
+    """A place in the print as the book has it now; none if it isn't known where it is there."""
+    before, place = its.proposal.text, its.proposal.place
+    now = session.print_of(its.proposal.paragraph)
+    least = smallest_correction(before, now)
+    if least is None:
+        return its
+    if place.start >= least.stop:
+        by = len(now) - len(before)
+        place = Span(place.start + by, place.stop + by)
+    elif place.stop > least.start:
+        return None
+    return replace(its, proposal=replace(its.proposal, text=now, place=place))
+
+
+def _offer_of(
+    wanted: Replacement, found: Sequence[Proposal], answered: Sequence[Place]
+) -> ChangePlaces:
+    """Places that were found, without what was put in; those that were left before stay left."""
+    left = {_where(each.proposal) for each in answered if each.is_left}
+    came = [each.proposal for each in answered if each.change is not None]
+    places = tuple(
+        Place(each, is_left=_where(each) in left)
+        for each in found
+        if not any(_share(each, other) for other in came)
+    )
+    there = {_where(each.proposal) for each in places}
+    elsewhere = (each for each in answered if _where(each.proposal) not in there)
+    return ChangePlaces(wanted, places, elsewhere=tuple(elsewhere))
+
+
+def _where(its: Proposal) -> tuple[int, str, Span]:
+    return its.paragraph, its.text, its.place
+
+
+def _share(one: Proposal, other: Proposal) -> bool:
+    """Whether two places have a character in common."""
+    is_in_same = one.paragraph == other.paragraph
+    return is_in_same and (
+        one.place.start < other.place.stop and other.place.start < one.place.stop
+    )
+
+
+def _listed_from_open(state: State, offer: ChangePlaces) -> State:
+    """The list with the cursor on the first place that is open."""
+    opened = (n for n, each in enumerate(offer.places) if each.is_open)
+    return _listed(state, offer, next(opened, 0))
 
 
 def _listed(state: State, offer: ChangePlaces, nth: int) -> State:
@@ -252,12 +311,19 @@ def _one_changed(
     deed = Deed(f"paragraph {number} was corrected", (requests.Undo(number),))
     kept = f"kept: a correction of paragraph {number}"
     state = _changed(session, state, deed, kept)
-    moved = moved_by(change, (each.proposal for each in offer.places))
-    places = [replace(p, proposal=m) for p, m in zip(offer.places, moved)]
-    came = replace(moved[nth], place=change.came)
+    places = _moved(change, offer.places)
+    came = replace(places[nth].proposal, place=change.came)
     places[nth] = Place(came, change)
+    elsewhere = tuple(_moved(change, offer.elsewhere))
+    offer = replace(offer, places=tuple(places), elsewhere=elsewhere)
     said = f"Paragraph {number} is changed. {touched(list(change.touched))}".rstrip()
-    return _on_next(state, replace(offer, places=tuple(places)), nth, said)
+    return _on_next(state, offer, nth, said)
+
+
+def _moved(change: Change, places: Sequence[Place]) -> list[Place]:
+    """Places as they are after one of their paragraphs was changed."""
+    moved = moved_by(change, (each.proposal for each in places))
+    return [replace(each, proposal=its) for each, its in zip(places, moved)]
 
 
 def _all_changed(
