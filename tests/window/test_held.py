@@ -51,20 +51,26 @@ Atspi.event_main()
 """
 # as fast as letters are typed
 _PACE_SECONDS = 0.03
-_RETURN = 0xFF0D
+_RETURN, _DOWN, ALT = 0xFF0D, 0xFF54, 0xFFE9
 
 
-def _press_at_once(keys: Sequence[int]) -> None:
-    """Presses keys by the X server itself: those of the bus wait for who listens to keys."""
+def press_at_once(keys: Sequence[int], held: int | None = None) -> None:
+    """Presses keys by the X server itself: those of the bus wait for who listens to keys.
+
+    Another one may be held down before the first of them is pressed, until just before that comes up.
+    """
     x, test = ctypes.CDLL("libX11.so.6"), ctypes.CDLL("libXtst.so.6")
     x.XOpenDisplay.restype = ctypes.c_void_p
     display = ctypes.c_void_p(x.XOpenDisplay(None))
-    for key in keys:
+    strokes = [(key, is_down) for key in keys for is_down in (True, False)]
+    if held is not None:
+        strokes = [(held, True), strokes[0], (held, False), *strokes[1:]]
+    for key, is_down in strokes:
         code = x.XKeysymToKeycode(display, ctypes.c_ulong(key))
-        for is_down in (True, False):
-            test.XTestFakeKeyEvent(display, code, is_down, ctypes.c_ulong(0))
+        test.XTestFakeKeyEvent(display, code, is_down, ctypes.c_ulong(0))
         x.XFlush(display)
-        time.sleep(_PACE_SECONDS)
+        if not is_down:
+            time.sleep(_PACE_SECONDS)
     x.XCloseDisplay(display)
 
 
@@ -175,10 +181,26 @@ def test_letters_are_held_in_order_where_a_screen_reader_hears_of_them_late(
     program = session_of(window)
     os.kill(program, signal.SIGSTOP)
     text = "it stood and set"
-    _press_at_once([_RETURN, *map(ord, text)])
+    press_at_once([_RETURN, *map(ord, text)])
     await_kept(window, moon, text)
     os.kill(program, signal.SIGCONT)
     window.reads("Print", text)
+
+
+def test_what_is_typed_after_a_paragraph_was_moved_is_typed_in_the_print(
+    late: None, moon: Path, at: Open
+) -> None:
+    window = at(moon)
+    window.press("F2")
+    window.focus("text", "Print")
+    for number, text in enumerate(("at last", " of all"), 1):
+        window.press("End")
+        before = window.text("Print")
+        press_at_once([_DOWN, *map(ord, text)], ALT)
+        window.reads("Print", f"{before}{text}")
+        window.press("Return")
+        window.reads("Message", f"Kept: correction {number} of paragraph 1.")
+        window.lists(number, f"1 body: {before}{text}")
 
 
 @pytest.mark.parametrize("number", [signal.SIGTERM, signal.SIGKILL])

@@ -6,6 +6,7 @@ from scribe.window.menus import MENUS
 
 from conftest import Open
 from reader import Part, all_within, children, text_of, within
+from test_held import ALT, press_at_once
 
 
 def test_all_parts_have_names_and_take_the_focus_in_their_order(
@@ -75,6 +76,30 @@ def test_each_action_stands_in_a_menu_and_is_done_from_there(
         window.click(window.part("menu item", name))
         window.reads("Message", said)
     assert text_of(window.part("text", "Print")) == "The mon is far away."
+
+
+def test_menus_are_opened_by_keys_and_what_is_typed_after_alt_alone_is_typed(
+    moon: Path, at: Open
+) -> None:
+    window = at(moon)
+    window.press("F2")
+    window.focus("text", "Print")
+    for key, name in (
+        ("F10", "Import a text…"),
+        ("Alt+p", "New paragraph after"),
+        ("Alt+h", "Keys"),
+    ):
+        window.press(key)
+        window.focus("menu item", name)
+        window.press("Escape")
+        window.focus("menu bar", "")
+        window.press("Escape")
+        window.focus("text", "Print")
+    window.press("F10", "Right", "Right", "Right", "Down", "Return")
+    window.says("Mark 1, open")
+    window.press("F2", "Home")
+    press_at_once([ALT, *map(ord, "at")])
+    window.reads("Print", "atThe mon is far away.")
 
 
 def test_the_mouse_does_what_the_keys_do(moon: Path, at: Open) -> None:

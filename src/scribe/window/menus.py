@@ -3,9 +3,9 @@
 from collections.abc import Callable, Mapping
 from dataclasses import dataclass
 
-from PyQt6.QtCore import Qt
-from PyQt6.QtGui import QAction, QKeyEvent, QKeySequence
-from PyQt6.QtWidgets import QMainWindow
+from PyQt6.QtCore import QEvent, QObject, Qt
+from PyQt6.QtGui import QAction, QKeyEvent, QKeySequence, QShortcut
+from PyQt6.QtWidgets import QMainWindow, QMenuBar
 
 
 @dataclass(frozen=True)
@@ -94,6 +94,27 @@ MENUS: Mapping[str, tuple[Item | None, ...]] = {
 # keys that mean other things where no print is typed, and are taken by the print alone
 _OF_THE_PRINT = ("Enter", "Esc")
 _OTHER_KEYS = {"larger": "Ctrl+="}
+_OF_MENUS = "F10"
+
+
+class _Bar(QMenuBar):
+    """The bar of menus, of which a key opens the first one, and Alt alone none.
+
+    Where a screen reader hears of keys, Qt takes Alt for alone that came up before the key with it,
+    and letters that are typed after that would be keys of menus.
+    """
+
+    def eventFilter(self, to: QObject | None, event: QEvent | None) -> bool:
+        """Looks for no Alt."""
+        return False
+
+    def open(self) -> None:
+        """Opens the first menu, on its first action."""
+        first = self.actions()[0]
+        self.setActiveAction(first)
+        menu = first.menu()
+        assert menu is not None
+        menu.setActiveAction(menu.actions()[0])
 
 
 class Menus:
@@ -104,8 +125,9 @@ class Menus:
     ) -> None:
         self.actions: dict[str, QAction] = {}
         self._letters: dict[str, QAction] = {}
-        bar = window.menuBar()
-        assert bar is not None
+        bar = _Bar()
+        window.setMenuBar(bar)
+        QShortcut(QKeySequence(_OF_MENUS), window, bar.open)
         for title, items in MENUS.items():
             menu = bar.addMenu(title)
             assert menu is not None
@@ -152,7 +174,7 @@ def key_lines() -> list[str]:
                 keys = [item.key, letter if item.letter else ""]
                 said = " or ".join(filter(None, keys)) or "no key"
                 lines.append(f"  {item.plain}: {said}")
-    return lines
+    return [*lines, f"  The menus: {_OF_MENUS}, or Alt and an underlined letter"]
 
 
 def _slot(act: Callable[[], object]) -> Callable[[], None]:
