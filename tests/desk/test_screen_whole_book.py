@@ -8,7 +8,7 @@ from pathlib import Path
 import pytest
 
 import braildesk
-from braildesk import Session
+from braildesk import Done, Session
 from braildesk.desk.drafts import Drafts
 from braildesk.desk.layout import PageSize
 from braildesk.desk.own_folder import OwnFolder
@@ -493,6 +493,29 @@ def test_volumes_are_proposed_set_and_taken_back(chapters: Path, sit: Sit) -> No
     assert [each.id for each in sat.state.book if each.begins_volume] == [3, 5]
     sat.press("escape", "u", "y")
     sat.state = sat.desk.away(sat.state, lambda _: None)
+    assert not any(each.begins_volume for each in sat.state.book)
+
+
+def test_volumes_that_were_set_before_one_was_refused_are_said_and_taken_back(
+    chapters: Path, sit: Sit, monkeypatch: pytest.MonkeyPatch
+) -> None:
+    set_begins_volume = Session.set_begins_volume
+
+    def refusing(session: Session, number: int, begins: bool) -> Done:
+        return set_begins_volume(session, 99 if number == 5 else number, begins)
+
+    sat = sit(chapters)
+    sat.state = replace(sat.state, page_size=PageSize(28, 8))
+    sat.press("V", "v", "4", "enter")
+    monkeypatch.setattr(Session, "set_begins_volume", refusing)
+    sat.press("y")
+    assert sat.state.message == (
+        "The book has no paragraph 99: it has the paragraphs 1 to 6. Paragraph 3 begins a volume"
+        f" now. The book is at version {sat.state.version}."
+    )
+    monkeypatch.undo()
+    sat.press("escape", "u")
+    assert sat.state.message == "Taken back: volumes were set at 1 paragraph."
     assert not any(each.begins_volume for each in sat.state.book)
 
 

@@ -184,6 +184,24 @@ def test_where_it_is_stopped_it_is_said_what_is_in_the_book(
     assert ran.said.startswith(f"{rest}\nThe book is at version 17.\n")
 
 
+def test_where_the_book_refuses_one_it_is_said_what_is_in_the_book(
+    chapters: Path, monkeypatch: pytest.MonkeyPatch
+) -> None:
+    set_begins_volume = Session.set_begins_volume
+
+    def refusing(session: Session, number: int, begins: bool) -> Done:
+        return set_begins_volume(session, 99 if number == 6 else number, begins)
+
+    monkeypatch.setattr(Session, "set_begins_volume", refusing)
+    said = StringIO()
+    words = ["volumes", str(chapters), "--pages", "1", "--set", *SIZE]
+    assert run_words(words, Console(BytesIO(), StringIO(), said)) == 2
+    assert said.getvalue() == (
+        "The book has no paragraph 99: it has the paragraphs 1 to 9. Of 3 changes 2 are in the book,"
+        " which is at version 16. The same command makes the others.\n"
+    )
+
+
 def test_a_talk_shows_volumes_and_sets_them(chapters: Path) -> None:
     # a page of 25 lines has all of it
     given = "volumes\nvolumes --pages 1\nvolumes --pages 1 --set\nvolumes --set\n"

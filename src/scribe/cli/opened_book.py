@@ -10,6 +10,7 @@ from braildesk import (
     DeskError,
     Displaced,
     Lost,
+    Refused,
     Session,
     Why,
     check,
@@ -77,7 +78,8 @@ def said_where_stopped(
     console: Console,
     so_far: Callable[[int, int], str],
 ) -> Iterator[None]:
-    """Says what is in the book if many changes are stopped among them, or their session ends.
+    """Says what is in the book if many changes are stopped among them, one is refused, or their
+    session ends.
 
     This is said by how many were made, each of which is a version, and the version of the book.
     """
@@ -100,6 +102,11 @@ def said_where_stopped(
         if now is not None and now > first:
             console.say(so_far(now - first, now))
         raise
+    except Refused as refused:
+        now = session.last_version
+        if now == first:
+            raise
+        raise Stop(f"{refused.reason} {so_far(now - first, now)}") from refused
 
 
 def _version_after(lost: Lost, arguments: Namespace, first: int) -> int | None:

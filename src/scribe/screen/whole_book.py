@@ -412,17 +412,21 @@ def _volumes_set(
     session: Session, state: State, action: SetVolumes, tell: Report
 ) -> State:
     """Sets where volumes begin, as it was proposed, and shows them."""
-    kept = []
+    kept, why = [], ""
     try:
         for paragraph in set_volumes(session, action.changed):
             kept.append(paragraph)
             tell(len(kept), len(action.changed))
     except Interrupted:
         pass
+    except Refused as refused:
+        if not kept:
+            raise
+        why = refused.reason
     back = tuple(requests.Volume(its.id, its.begins_volume) for its in reversed(kept))
     count = counted(len(kept), "paragraph")
     deed = Deed(f"volumes were set at {count}", back)
     state = _changed(session, state, deed, f"kept: volumes set at {count}")
     said = was_set(action.changed[: len(kept)], state.version)
     state = _volumes(session, state, None)
-    return state.saying(" ".join(said))
+    return state.saying(" ".join([why, *said]).lstrip())
