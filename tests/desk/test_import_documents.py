@@ -327,7 +327,7 @@ def test_each_word_of_a_file_is_in_the_book_or_in_the_report(book: Path) -> None
         0,
         "6 paragraphs typed, numbers 1 to 6, by the table en.\n",
         lines(
-            "moon.docx is read as DOCX: 6 paragraphs, 1 of them headings.",
+            "moon.docx is read as DOCX: 6 paragraphs, 1 of them a heading.",
             "4 words of the file will be in no paragraph:",
             "- “Box”",
             "- “Wingdings_F04A”, after “Here” and before “it is”",
@@ -352,6 +352,13 @@ def test_each_word_of_a_file_is_in_the_book_or_in_the_report(book: Path) -> None
     ]
 
 
+def test_a_document_of_a_heading_alone_is_said_to_have_one(book: Path) -> None:
+    Path("moon.md").write_text("# Moon\n")
+    assert put(book, "--dry-run").shown.startswith(
+        "moon.md is read as Markdown: 1 paragraph, a heading.\n"
+    )
+
+
 def test_characters_that_the_table_lacks_are_shown_once_each_with_what_is_lost(
     book: Path,
 ) -> None:
@@ -363,7 +370,7 @@ def test_characters_that_the_table_lacks_are_shown_once_each_with_what_is_lost(
         2,
         "",
         lines(
-            "moon.md is read as Markdown: 2 paragraphs, 1 of them headings.",
+            "moon.md is read as Markdown: 2 paragraphs, 1 of them a heading.",
             "1 emphasis, as by italics, is lost:",
             "- “and” in “To → and → back…”",
             f"moon.md, paragraph 1, Moon [→] sea: {arrow} It stands in the text 3 times.",

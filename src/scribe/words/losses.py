@@ -175,6 +175,8 @@ def _head(path: Path, document: Manuscript) -> str:
     count = len(document.parts)
     paragraphs = "1 paragraph" if count == 1 else f"{count:,} paragraphs"
     of_these = f", {headings:,} of them headings" if headings else ", no headings"
+    if headings == 1:
+        of_these = ", a heading" if count == 1 else ", 1 of them a heading"
     return f"{path} is read as {kind_name(document.kind)}: {paragraphs}{of_these}."
 
 
