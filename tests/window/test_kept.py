@@ -16,6 +16,7 @@ from scribe.words.console import WAITING
 
 from conftest import Open, prints
 from reader import PATIENCE_SECONDS, Reader
+from test_cancelled import STAND_IN
 
 
 def _waits(window: Reader, book: Path, text: str) -> None:
@@ -81,6 +82,81 @@ def test_what_was_typed_is_offered_and_typed_further(moon: Path, at: Open) -> No
     again.press("Ctrl+q")
     assert again.end() == 0
     assert prints(moon)[0] == "The Moon and"
+
+
+@pytest.mark.parametrize("text", ["Neu getippt", "gut", "later on", "to it"])
+@pytest.mark.parametrize("end", [None, signal.SIGTERM, signal.SIGKILL])
+def test_a_text_that_is_typed_at_an_offer_is_no_answer_to_it_and_is_set_aside(
+    moon: Path, at: Open, text: str, end: signal.Signals | None
+) -> None:
+    soon = Draft(Aim.EDIT, 1, "en", "The Moon", "The Moon rose.", None, 5)
+    Drafts(moon).save(soon)
+    window = at(moon, is_waited_for=False)
+    window.top = window.dialog("Unsent text")
+    window.type(text)
+    if end is not None:
+        window.until("it is kept", lambda: _unread(moon) == text)
+        window.program.send_signal(end)
+        assert window.end() == -end
+        window = at(moon, is_waited_for=False)
+        window.top = window.dialog("Unsent text")
+    window.press("Return")
+    window.no_dialog()
+    window.opened()
+    if end is not signal.SIGTERM:
+        window.says(f" set aside: “{text}”. Ctrl+B brings it back.")
+    window.reads("Print", "The Moon rose.")
+    assert [each.text for each in Drafts(moon).given_up()] == [text]
+    assert Drafts(moon).unread() is None
+
+
+def _unread(book: Path) -> str:
+    found = Drafts(book).unread()
+    return found.text_of_all if found is not None else ""
+
+
+def test_an_offer_is_answered_by_keys_that_type_nothing(moon: Path, at: Open) -> None:
+    soon = Draft(Aim.EDIT, 1, "en", "The Moon", "The Moon rose.", None, 5)
+    for keys in (["Alt+g"], ["Tab", " "], ["x", "BackSpace", "Tab", "Return"]):
+        Drafts(moon).save(soon)
+        window = at(moon, is_waited_for=False)
+        window.top = window.dialog("Unsent text")
+        window.press(*keys)
+        window.no_dialog()
+        window.opened()
+        window.reads(
+            "Message", "Given up. The book is as it was. Ctrl+B brings it back."
+        )
+        window.press("Ctrl+q")
+        assert window.end() == 0
+        assert [each.text for each in Drafts(moon).given_up()] == [soon.text]
+
+
+def test_a_text_that_is_typed_at_the_offer_of_an_import_leaves_out_nothing_of_it(
+    moon: Path, at: Open
+) -> None:
+    text = moon.with_name("text.txt")
+    lines = [f"Line number {number} of the moon." for number in range(1, 601)]
+    text.write_text("\n\n".join(lines))
+    settings = {
+        "BRAILDESK": str(STAND_IN),
+        "STAND_IN_FOR": os.environ["BRAILDESK"],
+        "STAND_IN_AT": "7 kept signal SIGTERM",
+    }
+    words = [sys.executable, "-m", "scribe", "import", str(moon), str(text)]
+    ran = subprocess.run(words, env={**os.environ, **settings}, capture_output=True)
+    assert ran.returncode == -signal.SIGTERM
+    window = at(moon, is_waited_for=False)
+    window.top = window.dialog("Import")
+    window.type("rest")
+    window.press("Escape")
+    window.no_dialog()
+    window.opened()
+    window.says("“rest”. Ctrl+B brings it back.")
+    window.press("Ctrl+q")
+    assert window.end() == 0
+    # it is offered again
+    at(moon, is_waited_for=False).dialog("Import")
 
 
 def test_a_session_that_was_killed_is_opened_again_and_the_text_stays(

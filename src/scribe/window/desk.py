@@ -45,7 +45,7 @@ from scribe.window.book import (
     Opening,
     ChosenParagraph,
 )
-from scribe.window.dialogs import choice
+from scribe.window.dialogs import choice, offer
 from scribe.window.fields import LINE_END
 from scribe.window.held import Held
 from scribe.window.menus import MENUS
@@ -53,7 +53,14 @@ from scribe.window.window import Window
 from scribe.window.worker import Worker
 from scribe.words import pagelook
 from scribe.words.console import WAITING
-from scribe.words.drafts import Unsent, came_last, changed_since, not_kept, what_for
+from scribe.words.drafts import (
+    Unsent,
+    came_last,
+    changed_since,
+    not_kept,
+    typed_at_offer,
+    what_for,
+)
 from scribe.words.paragraph import counted, mark_line, title
 from scribe.words.preview import Preview
 from scribe.words.status import Interrupted, Stop, in_sentences
@@ -765,15 +772,22 @@ class Desk:
         is_in_print = self.window.focusWidget() is field and not field.isReadOnly()
         if not text or not is_in_print and len(text) <= _FEW:
             return None
-        draft, table = self.draft(), self.table_of_typed()
+        draft = self.draft()
         is_new = draft is not None and draft.aim.is_new and self.beside is None
         lines, text = (text, "") if is_new else ("", text)
-        aside = Draft(Aim.AFTER, self.number, table, "", text)
-        return Unread(lines, replace(aside, version=self.contents.version))
+        return Unread(lines, self._of_new(text))
+
+    def _of_new(self, text: str) -> Draft:
+        """A text that came where none is typed, for a new paragraph."""
+        aside = Draft(Aim.AFTER, self.number, self.table_of_typed(), "", text)
+        return replace(aside, version=self.contents.version)
 
     def _keep_held(self) -> None:
         """Keeps the text that is typed while the window waits, until it is in its place."""
-        held = self._text_held()
+        self._keep_unread(self._text_held())
+
+    def _keep_unread(self, held: Unread | None) -> None:
+        """Keeps a text until it is in its place, or nothing."""
 
         def look(found: "Future[None]") -> None:
             try:
@@ -782,6 +796,36 @@ class Desk:
                 self._say_besides(not_kept(fault))
 
         self.aside.latest("held", lambda: self.unsent.keep_unread(held), look)
+
+    def offered(
+        self, title: str, asked: str, answers: Sequence[str]
+    ) -> tuple[int, str]:
+        """The answer to what no key has asked for, and what is said of a text that was typed there."""
+        typed = ""
+
+        def keep(text: str) -> None:
+            nonlocal typed
+            # a letter alone is meant as an answer
+            typed = text.strip() if len(text.strip()) > 1 else ""
+            self._keep_unread(Unread("", self._of_new(typed)) if typed else None)
+
+        answer = offer(self.window, title, asked, answers, keep)
+        if not typed:
+            return answer, ""
+
+        def put_by() -> str:
+            how = self.unsent.put_by(self._of_new(typed))
+            with suppress(NotKept):
+                self.unsent.keep_unread(None)
+            return how or "Ctrl+B brings it back."
+
+        how = self.aside.result(put_by, False)
+        return answer, f"{typed_at_offer(typed)} {how}"
+
+    def say_too(self, sentence: str) -> None:
+        """Says something after what is said already."""
+        if sentence:
+            self.say(f"{self.window.message.text} {sentence}".lstrip())
 
     def _put_by_held(self) -> None:
         """Gives up a text that was typed before a dialog opened, which it doesn't answer."""

@@ -7,9 +7,10 @@ from contextlib import contextmanager
 from pathlib import Path
 from typing import TypeVar
 
-from PyQt6.QtCore import QSize, Qt, QTimer
+from PyQt6.QtCore import QEvent, QObject, QSize, Qt, QTimer
 from PyQt6.QtGui import QFocusEvent, QFont, QKeyEvent
 from PyQt6.QtWidgets import (
+    QApplication,
     QCheckBox,
     QDialog,
     QDialogButtonBox,
@@ -27,7 +28,7 @@ from PyQt6.QtWidgets import (
 
 from braildesk.text.characters import is_shown, visible
 
-from scribe.window.fields import ENTER, Field, lines_of
+from scribe.window.fields import ENTER, Field, is_letter, lines_of
 from scribe.window.worker import Worker
 
 Result = TypeVar("Result")
@@ -35,6 +36,11 @@ Part = TypeVar("Part", bound=QWidget)
 #: Says how far something is that takes long; and whether it is to end.
 Say = Callable[[str], None]
 IsStopped = Callable[[], bool]
+# keys that go from one button to another
+_GOING = (
+    *(Qt.Key.Key_Tab, Qt.Key.Key_Backtab, Qt.Key.Key_Left, Qt.Key.Key_Right),
+    *(Qt.Key.Key_Up, Qt.Key.Key_Down),
+)
 # when a dialog of progress is shown, and how often what it says is looked at
 _SHOWN_AFTER_SECONDS = 0.4
 _PACE_MILLISECONDS = 100
@@ -140,6 +146,59 @@ def choice(
     clicked = box.clickedButton()
     places = (n for n, button in enumerate(buttons) if button is clicked)
     return next(places, len(buttons) - 1)
+
+
+def offer(
+    over: QWidget,
+    title: str,
+    sentence: str,
+    answers: Sequence[str],
+    typed: Callable[[str], None],
+) -> int:
+    """Asks what no key has asked for: a text that is typed on there is no answer, and is handed on.
+
+    Qt would take the first letter of an answer for it, and Space for the answer that has the focus.
+    """
+    application, blind = QApplication.instance(), _Blind(typed)
+    assert application is not None
+    application.installEventFilter(blind)
+    try:
+        return choice(over, title, sentence, answers)
+    finally:
+        application.removeEventFilter(blind)
+
+
+class _Blind(QObject):
+    """Takes the text that is typed where buttons have the focus."""
+
+    def __init__(self, typed: Callable[[str], None]) -> None:
+        super().__init__()
+        self._hand_on = typed
+        self._text = ""
+        # Space presses a button that was gone to
+        self._is_gone_to = False
+
+    def eventFilter(self, to: QObject | None, event: QEvent | None) -> bool:
+        """Takes letters and what takes them away, and Space unless a button was gone to."""
+        if not isinstance(event, QKeyEvent) or event.type() != QEvent.Type.KeyPress:
+            return False
+        if not isinstance(to, (QPushButton, QMessageBox)):
+            return False
+        text = self._text
+        if event.key() in _GOING:
+            self._is_gone_to = True
+        elif event.key() == Qt.Key.Key_Backspace:
+            text = text[:-1]
+        elif is_letter(event) and not (self._is_gone_to and event.text() == " "):
+            text += event.text()
+            self._is_gone_to = False
+        else:
+            return False
+        is_taken = text != self._text
+        self._text = text
+        if is_taken:
+            self._hand_on(text)
+        return is_taken
 
 
 def text(

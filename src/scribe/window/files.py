@@ -154,15 +154,19 @@ class Files:
         except Undecided as undecided:
             self.decide(path, undecided)
 
-    def decide(self, path: Path, undecided: Undecided) -> None:
-        """Asks what is done about an earlier import of a text."""
+    def decide(self, path: Path, undecided: Undecided, is_offer: bool = False) -> None:
+        """Asks what is done about an earlier import of a text, also where no key has asked for it."""
         desk, note = self.desk, undecided.note
         answers = (
             ["&Yes", "&No"]
             if note is None
             else ["&Yes", "Leave the &rest out", "&Later"]
         )
-        answer = dialogs.choice(desk.window, "Import", question(undecided), answers)
+        asked, aside = question(undecided), ""
+        if is_offer:
+            answer, aside = desk.offered("Import", asked, answers)
+        else:
+            answer = dialogs.choice(desk.window, "Import", asked, answers)
         if answer == 0:
             self.imported(path, undecided.way)
         elif note is not None and answer == 1:
@@ -170,6 +174,7 @@ class Files:
             desk.say(
                 f"The rest of {note.name} is left out. What is in the book stays there."
             )
+        desk.say_too(aside)
 
     def _aside(self, title: str, act: Callable[[Console], object]) -> None:
         """Does something with the session closed, and shows what was said of it."""

@@ -7,7 +7,6 @@ from braildesk.desk.drafts import NotKept
 from braildesk.desk.earlier import PartIsThere, to_go_on
 from braildesk.desk.unfinished import NotSeen, Unfinished
 
-from scribe.window import dialogs
 from scribe.window.desk import Desk
 from scribe.window.files import Files
 from scribe.window.typed import Typed
@@ -63,7 +62,7 @@ class Offers:
             match each:
                 case Unfinished():
                     desk.say(came_to(each))
-                    self._files.decide(Path(each.note.text), PartIsThere(each))
+                    self._files.decide(Path(each.note.text), PartIsThere(each), True)
                 case NotSeen():
                     desk.say(not_seen(each))
                 case NotKept():
@@ -93,7 +92,7 @@ class Offers:
             " Shall it be typed further?"
         )
         answers = ("&Type it further", "&Give it up", "&Later")
-        answer = dialogs.choice(desk.window, "Unsent text", asked, answers)
+        answer, aside = desk.offered("Unsent text", asked, answers)
         if answer == 0:
             self._typed.type_further(waiting)
         elif answer == 1:
@@ -103,6 +102,7 @@ class Offers:
             desk.say(
                 "The text waits for the next opening. Ctrl+B asks about it before."
             )
+        desk.say_too(aside)
 
     def _changed(self, waiting: Draft) -> str:
         """That the print at which a text was typed is another since, or isn't there; or nothing."""

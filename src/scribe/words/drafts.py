@@ -62,6 +62,11 @@ def came_last(text: str) -> str:
     return f"What came while braildesk didn't answer is set aside: {quoted(joined)}."
 
 
+def typed_at_offer(text: str) -> str:
+    """That a text which was typed where something was asked is among those given up."""
+    return f"What was typed at the question is set aside: {quoted(text)}."
+
+
 def words_wait(words: tuple[str, str]) -> str:
     """That words which were typed to take the place of others aren't in the book."""
     old, new = words
