@@ -327,6 +327,27 @@ def test_what_another_program_types_while_the_window_waits_is_kept_too(
     assert "It rose. It set." in prints_after(window, moon)
 
 
+@pytest.mark.parametrize(
+    ("key", "is_killed"), [("Down", False), ("Down", True), ("s", False)]
+)
+def test_what_another_program_types_while_another_paragraph_is_read_is_given_up(
+    moon: Path, at: Open, key: str, is_killed: bool
+) -> None:
+    window = at(moon)
+    program = session_of(window)
+    os.kill(program, signal.SIGSTOP)
+    window.press(key)
+    window.reads("Message", WAITING)
+    window.insert("Print", "It rose.")
+    window.reads("Print", "It rose.")
+    os.kill(program, signal.SIGKILL if is_killed else signal.SIGCONT)
+    window.says("shown is set aside: “It rose.”. Ctrl+B brings it back.")
+    window.reads("Print", "The Moon" if key == "s" else "The mon is far away.")
+    assert [each.text for each in Drafts(moon).given_up()] == ["It rose."]
+    assert prints_after(window, moon)[0] == "The Moon"
+    assert Drafts(moon).waiting() is None
+
+
 def test_what_is_dropped_while_the_window_waits_stays_where_it_comes_from(
     application: QApplication, desk: Desk
 ) -> None:

@@ -59,6 +59,7 @@ from scribe.words.drafts import (
     changed_since,
     not_kept,
     typed_at_offer,
+    typed_meanwhile,
     what_for,
 )
 from scribe.words.paragraph import counted, mark_line, title
@@ -141,6 +142,8 @@ class Desk:
         self._watched: QSocketNotifier | None = None
         # what the message said before the program was waited for
         self._said_before = ""
+        # what is said at last of a text that is given up since something else is shown
+        self._meanwhile = ""
         self.window = self._made_window()
         self._connect()
 
@@ -242,6 +245,11 @@ class Desk:
             self._is_acting = False
             if self._watched is not None:
                 self._watched.setEnabled(True)
+        if self._meanwhile:
+            # what is given up doesn't wait
+            self.keep_draft(self.draft())
+            self.say_too(self._meanwhile)
+            self._meanwhile = ""
 
     @contextmanager
     def failures(self) -> Iterator[None]:
@@ -393,17 +401,38 @@ class Desk:
 
     def do(self, command: Command[object]) -> None:
         """Carries out a command, and shows what it did."""
-        self.show_done(self.asked(lambda: self.book.done(command)))
+        with self._giving_up_meanwhile():
+            done = self.asked(lambda: self.book.done(command))
+        self.show_done(done)
+
+    @contextmanager
+    def _giving_up_meanwhile(self) -> Iterator[None]:
+        """Gives up what others than hands type in the print while it waits to show another text."""
+        was, before = self.reading, self.window.print.text
+        try:
+            yield
+        finally:
+            text = self.window.print.text
+            if text.strip() and text != before:
+                draft = self._of_new(text)
+                if was is not None:
+                    its = was.its.paragraph
+                    what = Draft(Aim.EDIT, its.id, its.table, was.its.text, text)
+                    draft = replace(what, version=self.contents.version)
+                how = self.aside.result(lambda: self.unsent.put_by(draft), False)
+                how = how or "Ctrl+B brings it back."
+                self._meanwhile = f"{typed_meanwhile(text)} {how}"
 
     def show_row(self, row: int) -> None:
         """Shows the print and the braille of a paragraph."""
         before = self.number
         self.row, self.new, self._preview = row, None, None
         paragraphs = self.contents.paragraphs
-        self.reading = None
-        if paragraphs:
-            its = paragraphs[row]
-            self.reading = self.asked(lambda: self.book.reading(its))
+        with self._giving_up_meanwhile():
+            self.reading = None
+            if paragraphs:
+                its = paragraphs[row]
+                self.reading = self.asked(lambda: self.book.reading(its))
         if self.number != before:
             self.in_hand = None
             # what was typed and taken away in another one, which may read the same, stays there

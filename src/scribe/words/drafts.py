@@ -67,6 +67,11 @@ def typed_at_offer(text: str) -> str:
     return f"What was typed at the question is set aside: {quoted(text)}."
 
 
+def typed_meanwhile(text: str) -> str:
+    """That a text which another program typed before another paragraph was shown is given up."""
+    return f"What was typed before this was shown is set aside: {quoted(text)}."
+
+
 def words_wait(words: tuple[str, str]) -> str:
     """That words which were typed to take the place of others aren't in the book."""
     old, new = words
