@@ -47,6 +47,21 @@ def test_what_escape_gives_up_comes_back_by_a_key(moon: Path, sit: Sit) -> None:
     assert [each.id for each in sat.state.book] == [1, 4, 2, 3]
 
 
+@pytest.mark.parametrize("keys", [["n"], ["escape"], ["U", "n"], ["U", "U", "n"]])
+def test_one_is_back_where_one_was_if_what_was_given_up_stays_so(
+    moon: Path, sit: Sit, keys: list[str]
+) -> None:
+    sat = sit(moon)
+    sat.press("enter", *"Oh, ", "escape", "down", "m", *"who?", "escape")
+    sat.press("c-end", "right", "right")
+    before = sat.state.chosen, sat.state.place, sat.state.pane
+    sat.press("U", *keys)
+    assert (sat.state.chosen, sat.state.place, sat.state.pane) == before
+    assert sat.state.anchor is None
+    sat.press("o")
+    assert "New paragraph after paragraph 3" in "\n".join(sat.lines)
+
+
 def test_what_was_given_up_comes_back_when_the_book_is_opened_again(
     moon: Path, sit: Sit
 ) -> None:

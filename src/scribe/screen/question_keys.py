@@ -105,6 +105,9 @@ def _about_text(state: State, question: Question, draft: Field, key: str) -> Ste
     if question.older is not None and key == "U":
         return Step(asked, BringBack(question.older))
     if question.older is not None and key in ("n", "escape"):
+        if question.came_from is not None:
+            chosen, place, pane = question.came_from
+            state = replace(state.at(chosen, place), pane=pane)
         return Step(replace(state, anchor=None).saying(_STAYS_GIVEN_UP))
     return Step(asked.saying(_NO_ANSWER))
 

@@ -83,6 +83,8 @@ class Question:
     no: LeaveImport | None = None
     #: The place of the text that U asks about next, if this one was given up.
     older: int | None = None
+    #: Where the cursor was as U was pressed: the paragraph, the place and what that is in.
+    came_from: tuple[int, int, Pane] | None = None
     more: str = ""
 
     @property

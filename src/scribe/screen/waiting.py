@@ -74,13 +74,15 @@ def _brought_back(session: Session, unsent: Unsent, state: State, place: int) ->
     if not texts:
         return state.saying("No text was given up in this book.")
     place %= len(texts)
+    before = state.question.came_from if state.question else None
+    came_from = before or (state.chosen, state.place, state.pane)
     state = replace(state, question=None)
     state = asked_about(session, state, texts[place], "was set aside")
     assert state.question is not None
     sentence = f"{place + 1} of {len(texts)}. {state.question.sentence}"
     more = "U asks about the one before." if len(texts) > 1 else ""
     asked = replace(state.question, sentence=sentence, older=place + 1, more=more)
-    return replace(state, question=asked)
+    return replace(state, question=replace(asked, came_from=came_from))
 
 
 def _put_by(unsent: Unsent, state: State, action: PutBy) -> State:
