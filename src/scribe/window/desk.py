@@ -140,10 +140,9 @@ class Desk:
         self._came_from: QWidget | None = None
         self._is_refused = False
         self._watched: QSocketNotifier | None = None
-        # what the message said before the program was waited for
-        self._said_before = ""
-        # what is said at last of a text that is given up since something else is shown
-        self._meanwhile = ""
+        # what the message said before the program was waited for; and what is said at last of a text
+        # that is given up since something else is shown
+        self._said_before = self._meanwhile = ""
         self.window = self._made_window()
         self._connect()
 
