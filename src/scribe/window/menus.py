@@ -108,7 +108,7 @@ class _Bar(QMenuBar):
         """Looks for no Alt."""
         return False
 
-    def open(self) -> None:
+    def open_first(self) -> None:
         """Opens the first menu, on its first action."""
         first = self.actions()[0]
         self.setActiveAction(first)
@@ -127,7 +127,7 @@ class Menus:
         self._letters: dict[str, QAction] = {}
         bar = _Bar()
         window.setMenuBar(bar)
-        QShortcut(QKeySequence(_OF_MENUS), window, bar.open)
+        QShortcut(QKeySequence(_OF_MENUS), window, bar.open_first)
         for title, items in MENUS.items():
             menu = bar.addMenu(title)
             assert menu is not None
