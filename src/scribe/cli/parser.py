@@ -7,7 +7,6 @@ from pathlib import Path
 from typing import TYPE_CHECKING, Any, NoReturn, TypeVar, cast
 
 from braildesk.desk import USUAL_WAIT
-from braildesk.named_files import is_handed_over
 from braildesk.text.cells import Notation
 from braildesk.text.wrapping import wrap
 from braildesk.version import version
@@ -277,6 +276,9 @@ def unknown_command(word: str, names: Sequence[str]) -> str:
 
 def readable(word: str) -> Path:
     """The path of a file."""
+    # imported here, since few commands name another file than a book
+    from braildesk.named_files import is_handed_over
+
     path = Path(word)
     try:
         is_file = path.is_file() or is_handed_over(path)
