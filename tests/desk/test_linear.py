@@ -198,7 +198,9 @@ def comparisons(run: Callable[[], object]) -> int:
 def test_passages_that_begin_alike_are_found_in_one_walk(
     monkeypatch: pytest.MonkeyPatch, end: str
 ) -> None:
-    monkeypatch.setattr(contents, "_words", lambda text: [*map(Compared, text.split())])
+    monkeypatch.setattr(
+        contents, "words_of", lambda text: [*map(Compared, text.split())]
+    )
 
     def steps(count: int) -> int:
         passages = [f"This moon {end.format(n)}" for n in range(count)]
