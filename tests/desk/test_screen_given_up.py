@@ -146,6 +146,22 @@ def test_what_a_mark_goes_on_is_said_where_its_note_is_typed_further(
     assert "Mark 2, open, on “n i”: how far?" in " ".join(sat.lines)
 
 
+def test_a_note_that_waits_is_not_taken_for_a_mark_on_other_words(
+    moon: Path, sit: Sit
+) -> None:
+    sat = sit(moon)
+    # mark 1 has this note
+    sat.press("/", *"far", "enter", "m", *"spelled so?")
+    sat.state = sat.desk.save_draft(sat.state)
+    sat.desk.close()
+    with Session(moon) as session:
+        session.strike(2)
+    again = sit(moon)
+    assert "isn't in the book: “spelled so?”" in asked(again)
+    again.press("y", "enter")
+    assert "Mark 2, open, on “far”: spelled so?" in " ".join(again.lines)
+
+
 def test_the_question_says_how_many_lines_wait(moon: Path, sit: Sit) -> None:
     Drafts(moon).save(Draft(Aim.AFTER, 2, "en", "", "It rose.\nIt set.\nIt rose."))
     sat = sit(moon)

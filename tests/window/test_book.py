@@ -165,6 +165,9 @@ def test_what_stands_next_is_found(book: OpenBook) -> None:
     assert cells is not None and cells.spot == Spot(2, 17)
 
 
+MON = "The mon is far away."
+
+
 @pytest.mark.parametrize(
     "draft, where",
     [
@@ -176,7 +179,10 @@ def test_what_stands_next_is_found(book: OpenBook) -> None:
             "in paragraph 2",
         ),
         (Draft(Aim.EDIT, 9, "en", "x", "The mon is far away.", None, 5), ""),
-        (Draft(Aim.NOTE, 2, "en", "x", "spelled so?", Span(5, 8), 5), "as mark 1"),
+        (Draft(Aim.NOTE, 2, "en", MON, "spelled so?", Span(5, 8), 5), "as mark 1"),
+        (Draft(Aim.NOTE, 2, "en", MON, "spelled so?", Span(9, 11), 5), ""),
+        (Draft(Aim.NOTE, 2, "en", MON, "spelled?", Span(5, 8), 5), ""),
+        (Draft(Aim.NOTE, 2, "en", "x", "spelled so?", Span(5, 8), 5), ""),
     ],
 )
 def test_a_text_that_waits_is_known_again_in_the_book(

@@ -1,13 +1,15 @@
-"""Lines that wait while they are typed, of which the first ones may be in the book already."""
+"""Lines that wait while they are typed, of which the first ones may be in the book already, and notes."""
 
 from collections.abc import Sequence
 from dataclasses import replace
 
-from braildesk import Session
+from braildesk import Mark, Session
 from braildesk.desk.draft import Draft
+from braildesk.desk.places import words_of
 from braildesk.desk.readings import answers
 from braildesk.protocol.requests import Print
 from braildesk.text.sequences import composed
+from braildesk.text.spans import Span
 
 # what waits is kept anew each time that such a part of its lines was typed
 _PART = 8
@@ -94,3 +96,23 @@ def overlap(earlier: Sequence[str], later: Sequence[str]) -> int:
     for text in earlier:
         count = longer(count, text)
     return count
+
+
+def mark_kept(session: Session, draft: Draft) -> Mark | None:
+    """The newest mark with a note that waits, on those cells for which it was typed; none if there is none.
+
+    Where the print isn't as it was then, nobody can tell.
+    """
+    number, cells = draft.paragraph, draft.cells
+    if number is None or cells is None:
+        return None
+    text, braille = session.print_of(number), session.braille_of(number)
+    if composed(text) != composed(draft.before) or cells.stop > len(braille):
+        return None
+    words = words_of(session, number, cells, text, braille)
+    its = [
+        mark
+        for mark in session.marks_of(number)
+        if mark.note == draft.text and Span(mark.start, mark.stop) == words
+    ]
+    return max(its, key=lambda mark: mark.id) if its else None

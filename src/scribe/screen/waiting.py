@@ -4,7 +4,7 @@ from dataclasses import replace
 
 from braildesk import Session
 from braildesk.desk.draft import Aim, Draft
-from braildesk.desk.kept_lines import lines_kept, lines_left
+from braildesk.desk.kept_lines import lines_kept, lines_left, mark_kept
 from braildesk.text.characters import visible
 from braildesk.text.sequences import composed
 from braildesk.text.spans import Span
@@ -149,9 +149,8 @@ def where_kept(session: Session, state: State, saved: Draft) -> str:
     if saved.aim is Aim.EDIT:
         is_there = composed(session.print_of(number)) == text
         return f"in paragraph {number}" if is_there else ""
-    marks = session.marks_of(number)
-    is_there = bool(marks) and marks[-1].note == saved.text
-    return f"as mark {marks[-1].id}" if is_there else ""
+    mark = mark_kept(session, saved)
+    return f"as mark {mark.id}" if mark is not None else ""
 
 
 def unkept(session: Session, state: State, saved: Draft) -> Draft | None:

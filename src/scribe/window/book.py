@@ -27,7 +27,7 @@ from braildesk.desk.highlighting import (
     highlighted_by_cell,
     highlighted_by_character,
 )
-from braildesk.desk.kept_lines import lines_kept, lines_left
+from braildesk.desk.kept_lines import lines_kept, lines_left, mark_kept
 from braildesk.desk.layout import PageSize
 from braildesk.desk.places import cells_of, words_of
 from braildesk.desk.readings import ParagraphReading, answers
@@ -609,9 +609,8 @@ class OpenBook:
         if number is None:
             return ""
         if draft.aim is Aim.NOTE:
-            marks = self._session.marks_of(number)
-            is_there = bool(marks) and marks[-1].note == draft.text
-            return f"as mark {marks[-1].id}" if is_there else ""
+            mark = mark_kept(self._session, draft)
+            return f"as mark {mark.id}" if mark is not None else ""
         text = composed(draft.first_line)
         is_there = composed(self._session.print_of(number)) == text
         return f"in paragraph {number}" if is_there else ""
