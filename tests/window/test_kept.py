@@ -52,6 +52,23 @@ def test_killed_at_ten_moments(moon: Path, at: Open, typed: int) -> None:
         assert waiting == its
 
 
+def test_a_killed_window_opens_where_it_was(moon: Path, at: Open) -> None:
+    window = at(moon)
+    window.press("F5", "Down", "F2", "End")
+    window.caret("Print", len("The mon is far away."))
+
+    def is_kept() -> bool:
+        found = Drafts(moon).left_at()
+        return found is not None and (found.paragraph, found.place) == (2, 20)
+
+    window.until("where the window is", is_kept)
+    window.program.send_signal(signal.SIGKILL)
+    window.program.wait()
+    again = at(moon)
+    again.reads("Print", "The mon is far away.")
+    again.reads("Message", "The book is open where it was left.")
+
+
 def test_what_was_typed_is_offered_and_typed_further(moon: Path, at: Open) -> None:
     window = at(moon)
     window.press("F2")

@@ -80,6 +80,8 @@ _WAITS = "What was typed and isn't in the book is kept, and is offered when it i
 _UNKEPT = "This was typed, and could not be kept:"
 # so many letters are no text where letters are keys
 _FEW = 3
+# how often it is kept where the window is, if that is another place by then
+_REST_MILLISECONDS = 1_000
 
 
 class _Told(Exception):
@@ -158,6 +160,8 @@ class Desk:
         chosen = self.window.table.selectionModel()
         assert chosen is not None
         window = self.window
+        self._resting = QTimer(window)
+        self._resting.timeout.connect(self._note_place)
         chosen.currentChanged.connect(self._chosen)
         window.print.textChanged.connect(self._typed)
         window.print.cursorPositionChanged.connect(self._in_print)
@@ -184,10 +188,13 @@ class Desk:
         self.watch()
         self.show(self.contents, None)
         self._go_where_left()
+        # in case the window doesn't end in order
+        self._resting.start(_REST_MILLISECONDS)
 
     def close(self) -> None:
         """Ends the session and the threads, once what is typed was kept as what waits."""
         self.unwatch()
+        self._resting.stop()
         self.keep_place()
         self.aside.stop()
         try:
@@ -217,13 +224,25 @@ class Desk:
 
     def keep_place(self) -> None:
         """Keeps where the book is left, so that it opens there again, here and in a terminal."""
+        if (now := self._place_now()) is not None:
+            self.aside.result(partial(self.drafts.leave_at, now), is_first=False)
+
+    def _note_place(self) -> None:
+        """Keeps where the window is now, if that is another place than before."""
+        now = self._place_now()
+        if now is not None and now != self._left:
+            self._left = now
+            keep = partial(self.drafts.leave_at, now)
+            self.aside.latest("place", keep, lambda future: None)
+
+    def _place_now(self) -> LeftAt | None:
+        """Where the window is, unless nothing is chosen or a new paragraph is typed."""
         if self.number is None or self.new is not None:
-            return
+            return None
         in_cells = self.window.cells.hasFocus()
         place = self.window.cells.place if in_cells else self.window.print.place
         before = self._left or LeftAt(self.number, 0)
-        now = replace(before, paragraph=self.number, place=place, is_in_cells=in_cells)
-        self.aside.result(lambda: self.drafts.leave_at(now), is_first=False)
+        return replace(before, paragraph=self.number, place=place, is_in_cells=in_cells)
 
     # what is done, and what becomes of failures
 
