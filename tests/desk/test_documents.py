@@ -1675,6 +1675,9 @@ def test_a_program_that_takes_too_long_is_given_up(
     with monkeypatch.context() as patched:
         patched.setattr(pandoc, "_LEAST_SECONDS", 1)
         assert given_up("while :; do :; done").startswith("takes pandoc more time than")
+    # as LibreOffice, which takes the signal
+    ended = given_up("echo Fatal exception: Signal 24 >&2; exit 152")
+    assert ended.startswith("takes pandoc more time than any")
     for end in ("kill -KILL $$", "echo pandoc: out of memory >&2; exit 251"):
         assert given_up(end).startswith("takes pandoc more memory than any book")
     assert "nested" in given_up("echo pandoc: stack overflow >&2; exit 2")

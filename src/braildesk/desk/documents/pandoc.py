@@ -72,6 +72,8 @@ _LEFT_OUT = re.compile(
 _SESSION, _TIMES = 3, slice(11, 15)
 #: The status by which programs made by GHC, as pandoc is, end where they get no more memory.
 _NO_MEMORY = 251
+#: What LibreOffice says where it gets no more time of a processor: it ends otherwise than others by that.
+_NO_TIME = b"Fatal exception: Signal %d" % signal.SIGXCPU
 #: What they say where something is nested too deeply for them.
 _STACK = b"stack overflow"
 #: How much of what a program says beside its answer is read.
@@ -218,7 +220,7 @@ def _spent(session: int) -> float:
 
 def _failure(name: str, status: int, errors: bytes) -> UnreadableText:
     """Why a program failed: by a limit, or by what it said, in one line."""
-    if status == -signal.SIGXCPU:
+    if status == -signal.SIGXCPU or _NO_TIME in errors:
         return BrokenOff(name, Spent.TIME)
     # a system that runs out of memory ends what takes most of it
     if status in (-signal.SIGKILL, _NO_MEMORY):
