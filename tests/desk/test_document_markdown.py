@@ -201,6 +201,16 @@ def test_what_is_no_print_of_markdown_is_not_missing() -> None:
     assert not read(text).missing
 
 
+@pytest.mark.parametrize(
+    "text",
+    [
+        "The [key]{.smallcaps} and [so]{.ul} and an <span class=underline>a</span>.\n",
+    ],
+)
+def test_what_is_said_of_print_of_markdown_by_a_word_is_not_missing(text: str) -> None:
+    assert not read(text).missing
+
+
 def test_a_note_to_which_several_numbers_lead_is_typed_once() -> None:
     found = read(
         "One[^a], two[^b] and^[Ibid.] again[^a].\n\nThree[^a]^[Ibid.][^c][^d].\n\n"
