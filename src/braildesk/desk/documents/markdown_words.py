@@ -13,9 +13,10 @@ from braildesk.desk.documents.contents import missing, words_of
 from braildesk.desk.documents.reading import Missing
 from braildesk.desk.documents.tree import Node
 
-#: The numbers of items, with what stands before them, and the word before the title of a table.
+#: The numbers and boxes of items, with what stands before them, and the word before the title of a table.
 _NUMBERS = re.compile(
-    r"(?:[ \t>]|[*+~:-](?=[ \t])|\(?(?:[0-9]{1,9}|[a-zA-Z]|[ivxlcdm]+|[IVXLCDM]+|@[\w-]*)[.)](?=[ \t]|$))*"
+    r"(?:[ \t>]|[*+~:-](?=[ \t])|\[[xX]\](?=[ \t])"
+    r"|\(?(?:[0-9]{1,9}|[a-zA-Z]|[ivxlcdm]+|[IVXLCDM]+|@[\w-]*)[.)](?=[ \t]|$))*"
     r"(?:[Tt]able:)?"
 )
 #: The key of a note; that of a link, where that is or before its address; and an address that is surely one.
