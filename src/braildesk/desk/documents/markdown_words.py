@@ -24,6 +24,8 @@ _NOTE_KEY = re.compile(r"\[\^[^][\s]+\]:?")
 _LINK_KEY = re.compile(
     r"(?<=\])\[([^][]+)\]|\[([^][]+)\]:(?:[ \t]*<?[a-z]+://\S*)?|(?<=\])\(<?[a-z]+://[^()\s]*"
 )
+#: What may be the key of a link; before a colon only after words or brackets, else its address follows.
+_USE = re.compile(r"((?<=\])|(?<=\w ))?\[([^][]+)\](?(1)|(?!:))")
 #: A sign that says that the next one is no markup, and markup that may stand within a word.
 _ESCAPE = re.compile(r"\\([!-)+-/:-@\[\]_{|}])|\\[*~^`]?")
 _PARTING = re.compile(r"[*~^`]+")
@@ -45,7 +47,7 @@ def lines_of(text: str, tree: list[str]) -> Iterator[str]:
     """The words of each line of a text, parted as the texts of its tree have them."""
     known = {word for each in tree for word in words_of(each)}
     keys = {_folded(found[2]) for found in _LINK_KEY.finditer(text) if found[2]}
-    uses = {_folded(key) for key in re.findall(r"\[([^][]+)\](?!:)", text)}
+    uses = {_folded(found[2]) for found in _USE.finditer(text)}
 
     def without_key(found: re.Match[str]) -> str:
         used, key = map(_folded, found.groups(""))
