@@ -207,6 +207,7 @@ def test_what_is_no_print_of_markdown_is_not_missing() -> None:
         "The [key]{.smallcaps} and [so]{.ul} and an <span class=underline>a</span>.\n",
         "- [ ] open\n- [x] done\n\n1. [X] all\n",
         "See [the far sea][sea]: it is the [moon]: far.\n\n[sea]: https://a.b/c\n[moon]: https://a.b/d\n",
+        "(@far) The moon.\n(@) The sea.\n\nAs (@far) says, and @far too.\n",
     ],
 )
 def test_what_is_said_of_print_of_markdown_by_a_word_is_not_missing(text: str) -> None:

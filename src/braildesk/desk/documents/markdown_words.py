@@ -26,6 +26,9 @@ _LINK_KEY = re.compile(
 )
 #: What may be the key of a link; before a colon only after words or brackets, else its address follows.
 _USE = re.compile(r"((?<=\])|(?<=\w ))?\[([^][]+)\](?(1)|(?!:))")
+#: The label of an item, and what may be one where the number of that is shown.
+_LABEL = re.compile(r"^[ \t>]*\(@([\w-]+)\)(?=[ \t])", re.MULTILINE)
+_LABELLED = re.compile(r"(?<!\w)@([\w-]+)")
 #: A sign that says that the next one is no markup, and markup that may stand within a word.
 _ESCAPE = re.compile(r"\\([!-)+-/:-@\[\]_{|}])|\\[*~^`]?")
 _PARTING = re.compile(r"[*~^`]+")
@@ -54,8 +57,14 @@ def lines_of(text: str, tree: list[str]) -> Iterator[str]:
         is_text = used and used not in keys or key and key not in uses
         return found[0] if is_text else " "
 
+    labels = frozenset(_LABEL.findall(text))
+
+    def without_label(found: re.Match[str]) -> str:
+        return " " if found[1] in labels else found[0]
+
     for line in _LINK_KEY.sub(without_key, text).split("\n"):
-        line = _NOTE_KEY.sub(" ", unescape(_NUMBERS.sub("", line, count=1)))
+        line = _LABELLED.sub(without_label, _NUMBERS.sub("", line, count=1))
+        line = _NOTE_KEY.sub(" ", unescape(line))
         line = _ESCAPE.sub(lambda found: found[1] or " ", line)
         parts = _PARTING.sub(_SEAM, _plain(line)).split()
         yield " ".join(_whole(each, known) for each in parts)
