@@ -160,11 +160,11 @@ def _fill(
     """
     with held(BookFile(asked.path), os.O_RDWR) as file, ExitStack() as stack:
         place = stack.enter_context(place_of(path))
+        if os.fstat(file.fileno()).st_size:
+            _judge_copy(file, asked, program)
+            return False
         stack.enter_context(_failing_whole(asked))
         begun = stack.enter_context(_temporary())
-        if os.fstat(file.fileno()).st_size:
-            _judge_copy(file, begun, asked, program)
-            return False
         _judge_log(asked.path, NotMade, "new book")
         _begin(begun, NewBook(fspath(begun)), program, holding)
         _judge_place(place, file)
@@ -178,19 +178,24 @@ def _fill(
     return True
 
 
-def _judge_copy(
-    file: BinaryIO, begun: Path, asked: NewBook, program: StrPath | None
-) -> None:
+def _judge_copy(file: BinaryIO, asked: NewBook, program: StrPath | None) -> None:
     """Refuses a held file that isn't an empty book, by what the program says of a copy."""
     try:
-        copy_held(file, log_path(asked.path), begun)
-    except OSError as error:
-        folder = f"{begun.parent.parent}, the temporary folder,"
-        raise Failed(f"{folder} takes no copy of what is there. {_ROOM}") from error
-    try:
-        programs.make_book(begun, program)
+        with _temporary() as begun:
+            try:
+                copy_held(file, log_path(asked.path), begun)
+            except OSError as error:
+                folder = f"{begun.parent.parent}, the temporary folder,"
+                raise Failed(
+                    f"{folder} takes no copy of what is there. {_ROOM}"
+                ) from error
+            programs.make_book(begun, program)
     except Refused as refusal:
         raise refused_as(replace(refusal.refusal, asked=asked)) from None
+    except Failed as failed:
+        raise Failed(
+            f"“{asked.path}” isn't empty, and was left as it is: {failed.sentence}"
+        ) from failed
 
 
 @contextmanager

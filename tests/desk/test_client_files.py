@@ -732,6 +732,18 @@ def test_a_new_book_that_has_no_temporary_folder_says_so(
     assert names(tmp_path) == set()
 
 
+def test_a_book_is_not_said_to_be_gone_where_no_copy_of_it_can_be_judged(
+    book: Path, tmp_path: Path, monkeypatch: pytest.MonkeyPatch
+) -> None:
+    monkeypatch.setattr(tempfile, "tempdir", str(tmp_path / "none"))
+    with pytest.raises(Failed) as caught:
+        braildesk.new_book(book)
+    assert caught.value.sentence == (
+        f"“{book}” isn't empty, and was left as it is: no temporary folder can be made (No such file or"
+        " directory). Let TMPDIR name a folder with room."
+    )
+
+
 def test_a_group_that_is_not_the_books_may_do_no_more_with_its_copy_than_anybody(
     book: Path, tmp_path: Path, monkeypatch: pytest.MonkeyPatch
 ) -> None:
