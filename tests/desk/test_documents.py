@@ -1630,6 +1630,10 @@ def test_what_stands_in_rtf_after_the_end_of_its_group_is_read(
 off}",
             ["moon\u2011sea", "far", "off"],
         ),
+        (
+            r"{\rtf1{\info{\upr{\title sea}{\*\ud{\title se\u228 ?}}}}one {\upr{tw?}{\*\ud{two}}}}",
+            [],
+        ),
     ],
 )
 def test_words_of_rtf_that_libreoffice_leaves_out_are_missing(

@@ -140,10 +140,12 @@ class _Reader:
         group = self._group
         is_silent = group.is_silent or word in _SILENT
         is_silent |= group.is_passed_over and word not in _WITH_PRINT
+        if word == b"ud":
+            # this one stands in one that has the same in other characters, and is as that around both
+            is_silent = any(each.is_silent for each in self._outer[-2:-1])
         self._group = replace(
             group,
-            # this one stands in one that has the same in other characters
-            is_silent=is_silent and word != b"ud",
+            is_silent=is_silent,
             is_begun=True,
             is_passed_over=False,
             is_in_fonts=group.is_in_fonts or word == b"fonttbl",
