@@ -1634,6 +1634,9 @@ off}",
             r"{\rtf1{\info{\upr{\title sea}{\*\ud{\title se\u228 ?}}}}one {\upr{tw?}{\*\ud{two}}}}",
             [],
         ),
+        (r"{\rtf1\mac one two it\'d5s}", ["it\u2019s"]),
+        (r"{\rtf1\pc one two \'82}", ["\xe9"]),
+        (r"{\rtf1\pca one two \'b5}", ["\xc1"]),
     ],
 )
 def test_words_of_rtf_that_libreoffice_leaves_out_are_missing(

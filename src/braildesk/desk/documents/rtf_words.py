@@ -27,6 +27,7 @@ _SAID = {b"rquote": "\u2019", b"~": " ", b"_": "\u2011"}
 #: The code pages of the character sets of fonts; that of symbols has no characters.
 _SYMBOLS = 2
 _LATIN = "cp1252"
+_SYSTEMS = {b"mac": "mac_roman", b"pc": "cp437", b"pca": "cp850"}
 _PAGES = {
     77: "mac_roman",
     128: "cp932",
@@ -124,6 +125,8 @@ class _Reader:
                 self._usual = value
             case b"fcharset" if self._group.is_in_fonts:
                 self._fonts[self._group.font] = value
+            case _ if word in _SYSTEMS:
+                self._page = _SYSTEMS[word]
             case b"ansicpg":
                 self._page = _known(f"cp{value}")
             case _ if self._group.is_silent:
