@@ -36,7 +36,7 @@ _EDGES = re.compile(r"(?<!\w)_++|(?<!_)_++(?!\w)")
 _ID = re.compile(r"#([^\s{}]+)")
 _SEAM = "\ue0f2"
 #: Nodes whose words may be parts of words; and what is written of elements of HTML that are nodes.
-_WITHIN = frozenset("Code Emph Strong Strikeout Superscript Subscript".split())
+_WITHIN = frozenset("Cite Code Emph Strong Strikeout Superscript Subscript".split())
 _ELEMENTS = {
     "Div": "div class id div",
     "Span": "span class id span",
