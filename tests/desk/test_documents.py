@@ -1637,6 +1637,10 @@ off}",
         (r"{\rtf1\mac one two it\'d5s}", ["it\u2019s"]),
         (r"{\rtf1\pc one two \'82}", ["\xe9"]),
         (r"{\rtf1\pca one two \'b5}", ["\xc1"]),
+        (
+            r"{\rtf1 one t{\revised w}{\deleted s\u228 ?a\rquote\_}o \deleted far\deleted0  {\deleted m\plain sea}}",
+            ["sea"],
+        ),
     ],
 )
 def test_words_of_rtf_that_libreoffice_leaves_out_are_missing(

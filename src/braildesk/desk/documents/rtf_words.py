@@ -59,8 +59,14 @@ class _Group:
     is_passed_over: bool = False
     is_in_fonts: bool = False
     is_apart: bool = False
+    is_deleted: bool = False
     font: int = 0
     beside: int = 1
+
+    @property
+    def is_print(self) -> bool:
+        """Whether its text is print, and wasn't deleted."""
+        return not (self.is_silent or self.is_deleted)
 
 
 class _Reader:
@@ -112,7 +118,7 @@ class _Reader:
             self._begin(word)
         match word:
             case b"u" if number:
-                if not group.is_silent:
+                if group.is_print:
                     shown = " " if self._is_symbol else chr(value % 0x10000)
                     self._text.append(shown)
                 self._skipped = group.beside
@@ -121,6 +127,10 @@ class _Reader:
             case b"f" | b"plain":
                 font = value if word == b"f" else self._usual
                 self._group = replace(self._group, font=font)
+                if word == b"plain":
+                    self._group = replace(self._group, is_deleted=False)
+            case b"deleted":
+                self._group = replace(self._group, is_deleted=number != b"0")
             case b"deff":
                 self._usual = value
             case b"fcharset" if self._group.is_in_fonts:
@@ -135,7 +145,7 @@ class _Reader:
                 self._end()
             case _ if word in _PARTING:
                 self._text.append(" ")
-            case _ if word in _SAID:
+            case _ if word in _SAID and self._group.is_print:
                 self._text.append(_SAID[word])
 
     def _begin(self, word: bytes) -> None:
@@ -164,7 +174,7 @@ class _Reader:
             self._end()
         elif sign in b"{}\\":
             self._add(sign)
-        elif sign in _SAID and not self._group.is_silent:
+        elif sign in _SAID and self._group.is_print:
             self._decode()
             self._text.append(_SAID[sign])
 
@@ -172,7 +182,7 @@ class _Reader:
         self._group = replace(self._group, is_begun=True)
         count = min(self._skipped, len(text))
         self._skipped -= count
-        if not self._group.is_silent:
+        if self._group.is_print:
             self._pieces.append(b" " if self._is_symbol else text[count:])
 
     @property
