@@ -405,3 +405,22 @@ def test_what_is_typed_on_after_a_few_pasted_lines_is_another_line_if_scribe_is_
     waits = Drafts(moon).waiting()
     assert waits and waits.text.split("\n") == [*lines, typed_on.strip()]
     once_free(moon).close()
+
+
+def test_what_keys_made_untrue_is_said_to_be_of_before(moon: Path, at: Open) -> None:
+    terminal = at(moon)
+    terminal.wait("? shows the keys.")
+    program = terminal.program()
+    os.kill(program, signal.SIGSTOP)
+    terminal.keys("s")
+    terminal.wait(WAITING)
+    # Enter finds it struck, and the letter after that restores it
+    for key in ("\r", "s"):
+        terminal.send(key)
+        time.sleep(0.06)
+    terminal.await_read()
+    os.kill(program, signal.SIGCONT)
+    terminal.wait("paragraph 1 restored")
+    terminal.settle()
+    lines = " ".join(" ".join(terminal.lines).split())
+    assert "Before the last keys this was said: Paragraph 1 is struck." in lines

@@ -110,6 +110,8 @@ _SIGNALS = (
     signal.SIGQUIT,
     signal.SIGXCPU,
 )
+# what stands before a sentence that was said of what keys have changed since
+_BEFORE_KEYS = "Before the last keys this was said: "
 
 
 class HungUp(Exception):
@@ -168,8 +170,8 @@ class Screen:
         self._busy_from = self._read_at = clock()
         self._is_idle, self._works = True, 0
         self._question = ToBeRead()
-        # what was said last, and since when it is on the screen, if it ever was
-        self._said, self._said_at = "", 0.0
+        # what was said last, of what, and since when it is on the screen, if it ever was
+        self._said, self._said_of, self._said_at = "", _spot(state), 0.0
         #: Whether the terminal was closed, so that nobody reads what is said.
         self.is_hung_up = False
         #: The signal that ended scribe, if one did.
@@ -438,8 +440,18 @@ class Screen:
     def _leave_said(self) -> None:
         """Leaves on the screen what wasn't there yet as the keys came that would take it away."""
         is_seen = self._said_at <= self._read_at
-        if not (is_seen or self.state.message or self.state.is_over):
-            self.state = self.state.saying(self._said)
+        if is_seen or self.state.message or self.state.is_over:
+            return
+        said = self._said
+        if _spot(self.state) != self._said_of:
+            # it need not be so any more
+            said = f"{_BEFORE_KEYS}{said.removeprefix(_BEFORE_KEYS)}"
+            self._note_said(said, self.state)
+        self.state = self.state.saying(said)
+
+    def _note_said(self, sentence: str, state: State) -> None:
+        """Notes what is said, until it was on the screen as a key came."""
+        self._said, self._said_of, self._said_at = sentence, _spot(state), math.inf
 
     def _not_begun(self) -> list[Stroke]:
         """The keys that wait, with the one that is carried out unless it is a command by a letter."""
@@ -515,7 +527,7 @@ class Screen:
             # that it has to be waited for isn't so any more once that is done
             self._said, self._said_at = "", 0.0
         elif state.message and state.message != self._said:
-            self._said, self._said_at = state.message, math.inf
+            self._note_said(state.message, state)
         self.state = state
         if state.is_over:
             self._app.exit()
@@ -677,3 +689,8 @@ class Screen:
         if not self.state.is_lost and not self.state.is_over:
             with suppress(Interrupted):
                 self._become(self._desk.lost(self.state))
+
+
+def _spot(state: State) -> tuple[object, ...]:
+    """Of what a sentence is said: of the book as it is, of a place in it, and of what is typed, if anything is."""
+    return state.version, state.chosen, state.place, state.typed is None
