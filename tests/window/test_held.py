@@ -107,6 +107,18 @@ def await_kept(window: Reader, book: Path, text: str) -> None:
     window.until(f"“{text}” as what came meanwhile", is_there)
 
 
+def kill_both(window: Reader, program: int) -> None:
+    """Kills a window and a program that was stopped.
+
+    That would go on where the window ends first, and may keep what it was asked.
+    """
+    window.program.send_signal(signal.SIGSTOP)
+    os.waitpid(window.program.pid, os.WUNTRACED)
+    os.kill(program, signal.SIGKILL)
+    window.program.kill()
+    window.program.wait()
+
+
 def test_what_is_typed_while_the_window_waits_outlives_a_kill(
     moon: Path, at: Open
 ) -> None:
@@ -118,9 +130,7 @@ def test_what_is_typed_while_the_window_waits_outlives_a_kill(
     window.press("Return")
     window.type("It set.")
     await_kept(window, moon, "It stood.\nIt set.")
-    window.program.send_signal(signal.SIGKILL)
-    window.program.wait()
-    os.kill(program, signal.SIGKILL)
+    kill_both(window, program)
     again = at(moon)
     again.dialog(
         "Unsent text",
@@ -214,14 +224,14 @@ def test_what_is_typed_in_no_text_while_the_window_waits_is_set_aside(
     window.reads("Message", WAITING)
     window.type("oThe sun rose.")
     await_kept(window, moon, "oThe sun rose.")
-    window.program.send_signal(number)
-    _, said = window.program.communicate(timeout=120)
     if number == signal.SIGTERM:
+        window.program.send_signal(number)
+        _, said = window.program.communicate(timeout=120)
         assert " ".join(said.decode().split()).endswith(
             " is kept, and is offered when it is next opened."
         )
     else:
-        os.kill(program, signal.SIGKILL)
+        kill_both(window, program)
     again = at(moon)
     again.says(
         "What came while braildesk didn't answer is set aside: “oThe sun rose.”."
