@@ -1129,7 +1129,7 @@ def test_readings_of_characters_in_an_odt_are_typed_in_brackets(
         its = f"<text:ruby-base>{base}</text:ruby-base>{reading}"
         return f'<text:ruby text:style-name="Ru1">{its}</text:ruby>'
 
-    reading = '<text:ruby-text text:style-name="T1">{}</text:ruby-text>'
+    reading = '<text:ruby-text text:style-name="Reading">{}</text:ruby-text>'
     bold = ruby("<text:span>a &amp; b</text:span>", reading.format(" c &lt; d "))
     text = (
         f"<text:p>One {ruby('kan', reading.format('ji'))}{ruby('far', reading.format(''))}"
