@@ -9,6 +9,8 @@ import pytest
 
 import braildesk
 from braildesk import Done, Session
+from braildesk.desk.change_note import Became, ChangeNote, NotedPlace
+from braildesk.desk.draft import Aim, Draft
 from braildesk.desk.drafts import Drafts
 from braildesk.desk.layout import PageSize
 from braildesk.desk.own_folder import OwnFolder
@@ -18,7 +20,7 @@ from scribe.screen import whole_book
 from scribe.screen.field import Field, Purpose
 from scribe.screen.state import HEAD_LINE, Size
 from sitting import Sat, Sit
-from stand_in import KEPT, KILL_PROGRAM, READ, WAIT
+from stand_in import KEPT, KILL_PROGRAM, KILL_SCRIBE, READ, WAIT
 from terminal import Open, once_free, standing_in
 
 TIDES = "The tide comes, and the Tide goes; no tideway is as it was."
@@ -606,3 +608,79 @@ def test_what_was_left_stays_left_after_a_change_that_was_cut_short(
     first, second = (places[n][(left == "second") is (n == 0)] for n in (0, 1))
     gone = TIDES.replace("The tide", second).replace("tideway", "the seaway")
     assert prints(tides) == [first, gone]
+
+
+@pytest.mark.parametrize("far", [READ, KEPT])
+def test_what_was_changed_before_the_session_ended_is_changed_once(
+    tides: Path, sit: Sit, monkeypatch: pytest.MonkeyPatch, far: str
+) -> None:
+    # the session ends before the second of the places is changed, or before that is reported
+    for name, value in standing_in(3, far, KILL_PROGRAM).items():
+        monkeypatch.setenv(name, value)
+    sat = sit(tides)
+    sat.press("enter", "O", " ", "enter")
+    asked(sat, "tide", "tides")
+    sat.press("a")
+    assert "was stopped after " in sat.state.message
+    left = 2 if far == READ else 1
+    assert sat.state.pages and len(sat.state.pages.lines) == 2 * left
+    sat.press("a", "escape")
+    sat.desk.close()
+    assert prints(tides) == ["O The tides", TIDES.replace("tide", "tides")]
+    assert Drafts(tides).changes() == ()
+
+
+def test_a_change_of_all_places_that_was_killed_is_asked_about_until_it_is_done_or_left(
+    tides: Path, at: Open, sit: Sit
+) -> None:
+    # the session ends after the first of the two places that are changed
+    terminal = at(tides, **standing_in(1, KEPT, KILL_SCRIBE))
+    terminal.wait("? shows the keys.")
+    terminal.keys("c", "tide", "enter", "tides", "enter")
+    terminal.wait("3 places of")
+    terminal.keys("down", "n")
+    terminal.wait("2 more places.")
+    terminal.keys("a")
+    assert terminal.ended() == -signal.SIGKILL
+    once_free(tides).close()
+    (note,) = Drafts(tides).changes()
+    stay = "The other places stay as they are."
+    for keys, said in (
+        ("l", "Nothing was changed. It is asked again when the book is opened."),
+        # neither other words nor a look at a place ends it
+        ("y enter", ""),
+        ("l c e n d enter x enter q", stay),
+        ("n", stay),
+        ("y q", stay),
+        ("l c t i d e enter t i d e s enter a", ""),
+    ):
+        Drafts(tides).begin_change(note)
+        sat = sit(tides)
+        assert sat.state.question and sat.state.question.sentence == (
+            "Changing “tide” to “tides” was cut short: 1 of 2 places is changed. Shall the others"
+            " be listed?"
+        )
+        sat.press(*keys.split())
+        assert sat.state.message == said
+        sat.desk.close()
+        is_kept = keys[0] == "l" and keys[-1] != "a" or keys == "y enter"
+        assert Drafts(tides).changes() == ((note,) if is_kept else ())
+    assert prints(tides) == ["The tide", TIDES.replace("tide", "tides")]
+    # all of it is in the book
+    Drafts(tides).begin_change(note)
+    sat = sit(tides)
+    assert sat.state.question is None and Drafts(tides).changes() == ()
+
+
+def test_what_is_asked_first_hides_nothing_of_a_change_that_was_cut_short(
+    tides: Path, sit: Sit
+) -> None:
+    place = NotedPlace(1, 8, 4, "tide", Became.OPEN)
+    drafts = Drafts(tides)
+    drafts.begin_change(ChangeNote("tide", "", False, False, 1, (place,)))
+    drafts.save(Draft(Aim.EDIT, 1, "en", "The tide", "The tides", None, 5))
+    sat = sit(tides)
+    assert sat.state.question and sat.state.question.draft
+    assert sat.state.message == (
+        "Taking out “tide” was cut short: none of 1 place is changed. c and the same words go on."
+    )

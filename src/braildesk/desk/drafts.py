@@ -15,6 +15,7 @@ from pathlib import Path
 from typing import TypeVar
 
 from braildesk.desk import Problem
+from braildesk.desk.change_note import ChangeNote, change_note_in
 from braildesk.desk.draft import Draft, Unread, draft_in, unread_in, written
 from braildesk.desk.identity import Identity, identity_of
 from braildesk.desk.import_note import ImportNote, Pairs, note_in, pairs_in, values_of
@@ -40,6 +41,8 @@ except ImportError:
 MOST_GIVEN_UP = 10
 #: How many imports that were cut short are noted for a book.
 MOST_IMPORTS = 10
+#: How many changes of words that were cut short are noted for a book.
+MOST_CHANGES = 5
 #: How many lines that were broken off are kept for a book.
 MOST_LINES = 10
 _Kept = TypeVar("_Kept")
@@ -58,6 +61,7 @@ class Begun(Enum):
     WORDS = "words"
     ANSWERS = "answers"
     LINES = "lines"
+    CHANGES = "changes"
 
 
 @dataclass(frozen=True, eq=False, repr=False)
@@ -236,6 +240,27 @@ class Drafts:
         else:
             self._remove(Begun.WORDS)
 
+    def changes(self) -> tuple[ChangeNote, ...]:
+        """Words that were being changed wherever they stand, the newest first.
+
+        What can't be read is no fault.
+        """
+        try:
+            data = self._folder.read(self._name(Begun.CHANGES))
+            return () if data is None else _changes_in(Record.of(data))
+        except (NotSuch, OSError):
+            return ()
+
+    def begin_change(self, note: ChangeNote) -> None:
+        """Notes words before the first place is changed, in place of what was noted of them."""
+        self._note_changes((note, *self._other_changes(note.words)))
+
+    def end_change(self, words: tuple[str, str]) -> None:
+        """Takes away what is noted of words: all is done, or nobody goes on with it."""
+        others = self._other_changes(words)
+        if len(others) < len(self.changes()):
+            self._note_changes(others)
+
     def answers(self) -> dict[str, str]:
         """What was last typed where something is asked, by its name; what can't be read is no fault."""
         try:
@@ -401,6 +426,16 @@ class Drafts:
         else:
             self._remove(Begun.IMPORTS)
 
+    def _other_changes(self, words: tuple[str, str]) -> tuple[ChangeNote, ...]:
+        return tuple(each for each in self.changes() if each.words != words)
+
+    def _note_changes(self, notes: tuple[ChangeNote, ...]) -> None:
+        if notes:
+            values = [each.values() for each in notes[:MOST_CHANGES]]
+            self._write(Begun.CHANGES, {"changes": values})
+        else:
+            self._remove(Begun.CHANGES)
+
     def _clear_left(self) -> None:
         try:
             self._folder.clear_left()
@@ -467,3 +502,7 @@ def _drafts_in(kept: Record) -> tuple[Draft, ...]:
 
 def _notes_in(kept: Record) -> tuple[ImportNote, ...]:
     return tuple(map(note_in, kept.records("imports")))
+
+
+def _changes_in(kept: Record) -> tuple[ChangeNote, ...]:
+    return tuple(map(change_note_in, kept.records("changes")))

@@ -6,6 +6,7 @@ from pathlib import Path
 from braildesk import After, Paragraph
 from braildesk.desk.change import Change
 from braildesk.desk.change_all import Proposal, Replacement
+from braildesk.desk.change_note import Became
 from braildesk.desk.earlier import Way
 from braildesk.desk.import_note import ImportNote
 from braildesk.desk.layout import PageSize
@@ -83,11 +84,20 @@ class Place:
     proposal: Proposal
     change: Change | None = None
     is_left: bool = False
+    #: Whether it was changed by what was cut short later.
+    was_changed: bool = False
+
+    @property
+    def became(self) -> Became:
+        """What became of it."""
+        if self.change is not None or self.was_changed:
+            return Became.CHANGED
+        return Became.LEFT if self.is_left else Became.OPEN
 
     @property
     def is_open(self) -> bool:
         """Whether it was neither changed nor left as it is."""
-        return self.change is None and not self.is_left
+        return self.became is Became.OPEN
 
 
 @dataclass(frozen=True)
@@ -190,6 +200,13 @@ class LeaveImport:
 
 
 @dataclass(frozen=True)
+class LeaveChange:
+    """Leaves the places of words as they are of which the change was cut short."""
+
+    words: tuple[str, str]
+
+
+@dataclass(frozen=True)
 class TakeBack:
     """Takes back what a key last did, with one command or with many."""
 
@@ -242,6 +259,7 @@ Action = (
     | ExportTo
     | ImportFrom
     | LeaveImport
+    | LeaveChange
     | TakeBack
     | GiveUp
     | PutOff

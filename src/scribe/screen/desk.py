@@ -2,6 +2,7 @@
 
 import signal
 from collections.abc import Callable, Sequence
+from contextlib import suppress
 from dataclasses import replace
 from functools import partial
 from pathlib import Path
@@ -17,6 +18,7 @@ from braildesk import (
     requests,
 )
 from braildesk.desk import aftermath
+from braildesk.desk.change_all import Replacement
 from braildesk.desk.correction import place_kept, smallest_correction
 from braildesk.desk.draft import Aim, Draft, Unread
 from braildesk.desk.drafts import Drafts, LeftAt, NotKept
@@ -48,6 +50,7 @@ from scribe.screen.actions import (
     GiveUp,
     GoOn,
     ImportFrom,
+    LeaveChange,
     LeaveImport,
     ListHeadings,
     ListMarks,
@@ -72,6 +75,7 @@ from scribe.screen.at_opening import (
     reminded,
     where_left,
     with_answers,
+    with_changes,
     with_cut,
 )
 from scribe.screen.background import ActionResult, done_in_background
@@ -89,6 +93,7 @@ from scribe.screen.state import (
     at_paragraph,
     done_by_one_key,
     draft_of,
+    listed_places,
     saying_first,
     so_far,
     with_imported,
@@ -108,6 +113,8 @@ from scribe.words.status import Interrupted, Stop, in_sentences, of_system
 _OPEN_AGAIN = "The book is open again."
 _OPEN_INSTEAD = "The file that is at the path now is open."
 _TYPE_ON = "What is typed is still here: type on."
+# the keys that leave the places of a list as they are; Enter goes to one of them
+_LEAVE = ("escape", "q")
 _ENDED = "What is typed is still here. Enter sends it again, and what is typed on is another line."
 
 
@@ -202,6 +209,7 @@ class Desk:
         state = with_answers(self._unsent, state)
         state = self._offered(state, self._unsent.waiting)
         state = reminded(self.drafts, self._session, state)
+        state = with_changes(self.drafts, self._session, state)
         return refreshed(self._session, state)
 
     def press(self, state: State, key: str) -> State:
@@ -210,6 +218,9 @@ class Desk:
         found = self._taken(keys.step(state, key))
         if asked is not None and found.typed is not None:
             found = self._taken_up(found, asked)
+        listed = listed_places(state)
+        if key in _LEAVE and listed is not None and listed_places(found) is None:
+            self._end_change(listed.wanted)
         return found.after(state)
 
     def paste(self, state: State, text: str, is_keys: bool = False) -> State:
@@ -556,7 +567,8 @@ class Desk:
                 if is_same
                 else f" now; the screen said {state.version:,} last."
             )
-            return self._offered(found.saying(f"{said} {now}"), waits)
+            found = self._offered(found.saying(f"{said} {now}"), waits)
+            return with_changes(self.drafts, self._session, found)
         except Displaced as lost:
             return self._displaced(state, lost)
         except Lost as lost:
@@ -809,7 +821,7 @@ class Desk:
                 return self._gone_on(state, action)
             case ExportTo() | ImportFrom():
                 return replace(state, away=action, message="Please wait.")
-            case LeaveImport():
+            case LeaveImport() | LeaveChange():
                 return self._left_out(state, action)
             case TakeBack():
                 return self._taking_back(state, action)
@@ -819,7 +831,10 @@ class Desk:
                 said = _OPEN_INSTEAD if state.is_displaced else _OPEN_AGAIN
                 return self._opened_anew(state, said)
 
-    def _left_out(self, state: State, action: LeaveImport) -> State:
+    def _left_out(self, state: State, action: LeaveImport | LeaveChange) -> State:
+        if isinstance(action, LeaveChange):
+            self.drafts.end_change(action.words)
+            return state.saying(whole_book.STAY)
         self.drafts.end_import(action.note)
         said = f"The rest of {action.note.name} is left out. What is in the book stays there."
         return state.saying(said)
@@ -902,10 +917,36 @@ class Desk:
         self, state: State, action: OfWholeBook, tell: whole_book.Report
     ) -> State:
         """Does what concerns the whole book, or opens it again if the session is lost meanwhile."""
+        if isinstance(action, ChangePlaces) and action.nth is None:
+            tell = self._noting(state, action, tell)
+        elif isinstance(action, FindPlaces) and not action.answered:
+            answered = whole_book.answered_before(
+                self._session, self.drafts, action.wanted
+            )
+            action = replace(action, answered=answered)
         try:
             return whole_book.done(self._session, state, action, tell)
         except Lost as lost:
             return self._after_loss(state, lost, state.version)
+
+    def _noting(
+        self, state: State, action: ChangePlaces, tell: whole_book.Report
+    ) -> whole_book.Report:
+        """Notes the places that are to be changed, until the last of them is done."""
+        with suppress(NotKept):
+            self.drafts.begin_change(whole_book.note_of(action, state.version))
+
+        def told(done: int, count: int) -> None:
+            tell(done, count)
+            if done == count:
+                self._end_change(action.wanted)
+
+        return told
+
+    def _end_change(self, wanted: Replacement) -> None:
+        """Takes away what is noted of words that were being changed, if anything is."""
+        with suppress(NotKept):
+            self.drafts.end_change((wanted.old, wanted.new))
 
     def _with_table(self, state: State, name: str) -> State:
         """Puts an installed table into the book if it has none of that name, then gives it."""

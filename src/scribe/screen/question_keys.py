@@ -8,6 +8,7 @@ from braildesk.text.characters import control_refused
 from scribe.screen.actions import (
     Action,
     BringBack,
+    FindPlaces,
     GiveUp,
     GoOn,
     ImportFrom,
@@ -21,10 +22,15 @@ from scribe.screen.state import End, Question, State, Step
 from scribe.screen.typing_keys import is_character, no_table, table_of_new, while_typing
 
 _NO_ANSWER = "That key is no answer to the question."
-_ASKED_LATER = "Nothing was typed. It is asked again when the book is opened."
+_ASKED_LATER = "It is asked again when the book is opened."
 _STAYS_GIVEN_UP = "It stays given up. U asks about it again."
 _STAYS_TYPED = "It stays as it is typed. Enter asks again."
-_DONE = {ImportFrom: "typed", TakeBack: "taken back", requests.Resolve: "resolved"}
+_DONE = {
+    ImportFrom: "typed",
+    FindPlaces: "changed",
+    TakeBack: "taken back",
+    requests.Resolve: "resolved",
+}
 
 
 def answered(state: State, question: Question, key: str) -> Step:
@@ -78,19 +84,20 @@ def _about_lines(state: State, typed: Field, question: Question, key: str) -> St
 def _about_errand(
     state: State,
     question: Question,
-    action: ImportFrom | TakeBack | requests.Resolve,
+    action: ImportFrom | FindPlaces | TakeBack | requests.Resolve,
     key: str,
 ) -> Step:
-    """An import goes on or is done again; what keys did is taken back; a mark is resolved."""
+    """An import or a change of words goes on; what keys did is taken back; a mark is resolved."""
     answered = replace(state, question=None)
+    nothing = f"Nothing was {_DONE[type(action)]}."
     if key == "y":
         return Step(answered, action)
     if key == "n" and question.no:
         return Step(answered, question.no)
     if question.no and key in ("l", "escape"):
-        return Step(answered.saying(_ASKED_LATER))
+        return Step(answered.saying(f"{nothing} {_ASKED_LATER}"))
     if key in ("n", "escape"):
-        return Step(answered.saying(f"Nothing was {_DONE[type(action)]}."))
+        return Step(answered.saying(nothing))
     return Step(state.saying(_NO_ANSWER))
 
 

@@ -18,7 +18,9 @@ from scribe.screen.actions import (
     ByPages,
     ChangePlaces,
     ExportTo,
+    FindPlaces,
     ImportFrom,
+    LeaveChange,
     LeaveImport,
     OfWholeBook,
     SetVolumes,
@@ -78,9 +80,9 @@ class Question:
     #: A text that is too long for one paragraph, and may go on in a new one, in its two parts.
     parts: tuple[str, str] | None = None
     #: What is done if the answer is yes, or no, where the question is about a text in a file, about
-    #: what is taken back, or about what can't be.
-    yes: ImportFrom | TakeBack | Resolve | None = None
-    no: LeaveImport | None = None
+    #: words that were being changed, about what is taken back, or about what can't be.
+    yes: ImportFrom | FindPlaces | TakeBack | Resolve | None = None
+    no: LeaveImport | LeaveChange | None = None
     #: The place of the text that U asks about next, if this one was given up.
     older: int | None = None
     #: Where the cursor was as U was pressed: the paragraph, the place and what that is in.
@@ -91,7 +93,7 @@ class Question:
     def is_offer(self) -> bool:
         """Whether no key has asked for it, so that who types on may not have read it."""
         is_of_waiting = self.draft is not None and self.older is None
-        return is_of_waiting or isinstance(self.yes, ImportFrom)
+        return is_of_waiting or isinstance(self.yes, ImportFrom | FindPlaces)
 
 
 #: Where the cursor stands when it is on what is said above the lines that are looked at.
@@ -431,6 +433,16 @@ def at_paragraph(state: State, number: int) -> State:
         return state
     places = [n for n, each in enumerate(state.book) if each.id == number]
     return state.at(places[0]) if places else state
+
+
+def listed_places(state: State) -> ChangePlaces | None:
+    """The places of words that are listed, also below other lines that are looked at; or none."""
+    pages = state.pages
+    while pages is not None:
+        if isinstance(pages.offer, ChangePlaces):
+            return pages.offer
+        pages = pages.under
+    return None
 
 
 def draft_of(state: State) -> Draft | None:

@@ -10,7 +10,7 @@ from braildesk.text.sequences import composed
 from braildesk.text.spans import Span
 
 from scribe.screen.actions import BringBack, GiveUp, PutBy, PutOff
-from scribe.screen.field import Field, Purpose
+from scribe.screen.field import Purpose
 from scribe.screen.in_hand import on_words
 from scribe.screen.state import (
     Pane,

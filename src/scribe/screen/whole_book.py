@@ -17,7 +17,9 @@ from braildesk.desk.change_all import (
     moved_by,
     proposals,
 )
-from braildesk.desk.correction import smallest_correction
+from braildesk.desk.change_note import Became, ChangeNote
+from braildesk.desk.changed_so_far import noted, places_now
+from braildesk.desk.drafts import Drafts
 from braildesk.desk.volume_plan import (
     as_they_are,
     planned,
@@ -63,7 +65,7 @@ _OF_PAGES = (
 _NONE_LEFT = "There are no more places to change."
 _ANEW = "The places are listed as they are now."
 _CLOSED = "The list of places is closed. c lists them again."
-_STAY = "The other places stay as they are."
+STAY = "The other places stay as they are."
 _CHANGED = (
     "This place is changed already. Escape, then u, takes back the newest change."
 )
@@ -121,7 +123,7 @@ def _of_places(
             wanted = replace(wanted, is_of_any_case=other)
             return state, FindPlaces(wanted, offer.answered)
         case "escape" | "q" if offer.open_places:
-            return replace(state, pages=pages.under).saying(_STAY), None
+            return replace(state, pages=pages.under).saying(STAY), None
     target = pager.target(pages, state.size)
     nth = target.nth if target else None
     if nth is None or key not in ("y", "n"):
@@ -193,29 +195,47 @@ def _found(
 
 def listed_anew(session: Session, state: State, offer: ChangePlaces) -> State:
     """The list of the places of words in a book that is another one now."""
-    answered = [_as_now(session, each) for each in offer.answered]
-    if takes_long(state, FindPlaces(offer.wanted)) or None in answered:
+    places = places_of(session, note_of(offer, state.version))
+    if len(places) < len(offer.places) + len(offer.elsewhere):
         return state.saying_too(_CLOSED)
     found = proposals(session, offer.wanted)
-    offer = _offer_of(offer.wanted, found, list(filter(None, answered)))
+    answered = [each for each in places if not each.is_open]
+    offer = _offer_of(offer.wanted, found, answered)
     if not offer.places:
         return state.saying_too(_NONE_LEFT)
     return _listed_from_open(state, offer).saying_too(_ANEW)
 
 
-def _as_now(session: Session, its: Place) -> Place | None:
-    """A place in the print as the book has it now; none if it isn't known where it is there."""
-    before, place = its.proposal.text, its.proposal.place
-    now = session.print_of(its.proposal.paragraph)
-    least = smallest_correction(before, now)
-    if least is None:
-        return its
-    if place.start >= least.stop:
-        by = len(now) - len(before)
-        place = Span(place.start + by, place.stop + by)
-    elif place.stop > least.start:
-        return None
-    return replace(its, proposal=replace(its.proposal, text=now, place=place))
+def note_of(offer: ChangePlaces, version: int) -> ChangeNote:
+    """What is noted of the places of a list in a book of a version, and of those that it hasn't."""
+    its = offer.wanted
+    places = (*offer.elsewhere, *offer.places)
+    return ChangeNote(
+        *(its.old, its.new, its.is_of_words, its.is_of_any_case, version),
+        tuple(noted(each.proposal, each.became) for each in places),
+    )
+
+
+def answered_before(
+    session: Session, drafts: Drafts, wanted: Replacement
+) -> tuple[Place, ...]:
+    """The places of words that were changed or left before the change of all was cut short."""
+    words = wanted.old, wanted.new
+    notes = [each for each in drafts.changes() if each.words == words]
+    places = [each for note in notes for each in places_of(session, note)]
+    return tuple(each for each in places if not each.is_open)
+
+
+def places_of(session: Session, note: ChangeNote) -> list[Place]:
+    """The places of a note as they are now, as far as that is seen."""
+    return [
+        Place(
+            its,
+            is_left=became is Became.LEFT,
+            was_changed=became is Became.CHANGED,
+        )
+        for its, became in places_now(session, note)
+    ]
 
 
 def _offer_of(
@@ -223,7 +243,7 @@ def _offer_of(
 ) -> ChangePlaces:
     """Places that were found, without what was put in; those that were left before stay left."""
     left = {_where(each.proposal) for each in answered if each.is_left}
-    came = [each.proposal for each in answered if each.change is not None]
+    came = [each.proposal for each in answered if each.became is Became.CHANGED]
     places = tuple(
         Place(each, is_left=_where(each) in left)
         for each in found

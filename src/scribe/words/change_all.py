@@ -12,6 +12,7 @@ from braildesk.desk.change_all import (
     Replacement,
     is_there,
 )
+from braildesk.desk.change_note import Became, ChangeNote
 from braildesk.desk.find import Variant, alike, find_words, tallied
 from braildesk.desk.ranges import ParagraphRange
 from braildesk.text.excerpt import excerpt_lines
@@ -144,6 +145,21 @@ def stopped_after(changed: int, places: int, version: int) -> str:
     return (
         f"Of {counted(places, 'place')} {changed:,} {is_are} changed in the book."
         f" {at_version(version)}"
+    )
+
+
+def cut_short(note: ChangeNote, now: Sequence[Became]) -> str:
+    """How far a change of words came that was cut short; of some places it may not be seen now."""
+    what = f"Taking out {quoted(note.old)}"
+    if note.new:
+        what = f"Changing {quoted(note.old)} to {quoted(note.new)}"
+    places = [each for each in note.places if each.became is not Became.LEFT]
+    changed = now.count(Became.CHANGED)
+    least = "at least " if len(now) < len(note.places) else ""
+    is_are = "is" if changed < 2 else "are"
+    return (
+        f"{what} was cut short: {least}{changed or 'none'} of {counted(len(places), 'place')}"
+        f" {is_are} changed."
     )
 
 

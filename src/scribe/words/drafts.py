@@ -28,6 +28,7 @@ _BEGUN = {
     Begun.WORDS: "What is typed to change words",
     Begun.ANSWERS: "What is typed as an answer",
     Begun.LINES: "What is typed at the prompt",
+    Begun.CHANGES: "How far the change of words comes",
 }
 
 
