@@ -325,6 +325,11 @@ def test_two_lines_show_what_is_typed_until_a_key_has_something_said() -> None:
     # else what was refused looks like what was kept
     refused = draw(state.saying("Nothing was changed."))
     assert (refused.texts()[1], refused.cursor) == ("Nothing was changed.", (1, 0))
+    note = replace(state, typed=Field(Purpose.NOTE, "why?", 4, said="On “moon”."))
+    for said in (note, note.saying("On “moon”.")):
+        drawn = draw(said)
+        assert drawn.texts() == ["On “moon”.", "Note of the mark: why?"]
+        assert drawn.cursor == (1, 22)
 
 
 def test_a_long_refusal_leaves_room_for_the_book() -> None:

@@ -13,6 +13,7 @@ from braildesk.desk.draft import Aim, Draft
 from braildesk.desk.drafts import Drafts
 from braildesk.desk.own_folder import OwnFolder
 from scribe.screen.drawing import draw
+from scribe.screen.state import Size
 from sitting import Sat, Sit
 from stand_in import KEPT, KILL_PROGRAM
 from terminal import Open, standing_in
@@ -124,11 +125,17 @@ def test_a_text_whose_paragraph_an_older_file_lacks_is_said_to_be_a_new_paragrap
     moon: Path, sit: Sit, aim: Aim
 ) -> None:
     Drafts(moon).save(Draft(aim, 9, "en", "It was late.", "It was dark.", None, 20))
-    question = sit(moon).state.question
+    sat = sit(moon, size=Size(40, 2))
+    question = sat.state.question
     assert question is not None and question.sentence.endswith(
         " and isn't in the book: “It was dark.”. The book has no paragraph 9, so it would be a"
         " new paragraph. Shall it be typed further?"
     )
+    # where there is no room for all of the question it is seen once that is answered
+    sat.press("y")
+    assert sat.lines[1] == "The book has no paragraph 9, so it woul…"
+    sat.press("end")
+    assert sat.lines[1] == "It was dark."
 
 
 def test_what_a_mark_goes_on_is_said_where_its_note_is_typed_further(
@@ -141,7 +148,13 @@ def test_what_a_mark_goes_on_is_said_where_its_note_is_typed_further(
     sat.press("escape", "home", "enter", *"Oh, ", "enter", "U")
     assert "The print there has been changed since." in asked(sat)
     sat.press("y")
-    assert sat.state.heard == "On “n i”."
+    assert sat.state.heard == "The print there has been changed since. On “n i”."
+    sat.state = sat.desk.resized(sat.state, Size(40, 2))
+    assert sat.lines == [
+        "The print there has been changed since.…",
+        "Note of the mark: how far?",
+    ]
+    sat.state = sat.desk.resized(sat.state, Size(80, 24))
     sat.press("enter")
     assert "Mark 2, open, on “n i”: how far?" in " ".join(sat.lines)
 

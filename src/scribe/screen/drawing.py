@@ -226,7 +226,8 @@ def _bottom(state: State) -> Area:
     width, own = state.size.columns, _own(state)
     if typed and not typed.purpose.is_print:
         text, place = _tail(PROMPTS[typed.purpose], typed, width)
-        lines = _below(state, state.size.lines - 2, own.count - 1)
+        # on two lines what is said of it covers the title
+        lines = _below(state, max(1, state.size.lines - 2), own.count - 1)
         return Area([(Run(line),) for line in [*lines, text]], (len(lines), place))
     lines = _below(state, state.size.lines - 1, own.count - own.hint)
     # the keys are what is needed least

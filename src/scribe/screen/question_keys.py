@@ -129,6 +129,8 @@ def _taken_up(asked: State, draft: Field) -> Step:
     state = replace(asked, question=None, table=table)
     lines = draft.text.split("\n")
     if len(lines) == 1:
-        return Step(replace(state, typed=draft))
+        # of a print it is said once, since it has the rows of its braille
+        typed = replace(draft, said="") if draft.purpose.is_print else draft
+        return Step(replace(state, typed=typed).saying(draft.said))
     typed = Field(draft.purpose)
     return Step(replace(state, typed=typed, question=about_lines(typed.purpose, lines)))

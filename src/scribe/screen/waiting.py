@@ -116,14 +116,15 @@ def asked_about(
     sentence = (
         f"{what_for(saved)} {became}: {quoted(saved.joined)}.{amount}{moved}{changed}"
     )
-    field = field_of(saved)
+    # on few lines no more than the end of a question is seen
+    field = replace(field_of(saved), said=changed.lstrip())
     if saved.aim is Aim.NOTE and places:
         state = _on_cells(session, state, saved)
         assert state.paragraph is not None and state.chosen_cells is not None
         said = on_words(session, state.paragraph.id, state.chosen_cells)
-        field = replace(field, said=said)
+        field = replace(field, said=f"{changed} {said}".strip())
     elif not places and not saved.aim.is_new:
-        field = Field(Purpose.AFTER, saved.text, len(saved.text))
+        field = replace(field, purpose=Purpose.AFTER)
     table = saved.table if saved.table in state.tables else None
     state = replace(state, table=table or state.table)
     asked = f"{sentence} Shall it be typed further?"
