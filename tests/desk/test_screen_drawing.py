@@ -301,6 +301,10 @@ def test_two_lines_show_what_is_asked_looked_at_or_said_at_the_cursor() -> None:
         "yes, n is no. l leaves it.",
     ]
     assert drawn.cursor == (1, 0)
+    said = "That key is no answer to the question."
+    three = draw(replace(state, question=asked, size=Size(40, 3)).saying(said))
+    assert three.texts() == [said, *drawn.texts()]
+    assert three.cursor == (2, 0)
     looked_at = replace(state, pages=Pages("All keys.", ("Up: goes up", "q: ends")))
     closed = Pages("The book is closed.", ("It is gone.",))
     for shown, line in (

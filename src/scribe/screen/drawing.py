@@ -246,7 +246,9 @@ def _asked(state: State, question: Question) -> Area:
     if len(asked) > most:
         # how it is answered stands at its end
         asked = [*_at_most(asked, most - 2, width), *asked[-2:]]
-    lines = [*_message(state, most - len(asked)), *asked]
+    # where it has no other room, what is said covers the title
+    room = max(most - len(asked), min(1, state.size.lines - len(asked)))
+    lines = [*_message(state, room), *asked]
     free = _own(state).count - len(lines)
     if free > 0:
         place = [] if state.pages else _place_lines(state)
