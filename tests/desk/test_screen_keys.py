@@ -846,7 +846,8 @@ def test_the_keys_of_what_is_being_done_are_shown_and_left_again(
     lines = shown.pages.lines
     assert (lines[0].split(":")[0], lines[-1].split(":")[0]) == (first, last)
     # they are shown once, and Escape goes back to what was being done
-    assert step(shown, "f1").state.pages == shown.pages
+    again = step(shown, "f1").state
+    assert again == shown.saying("The keys are shown already. Escape goes back.")
     back = step(shown, "escape").state
     assert (back.pages, back.typed, back.anchor) == (
         state.pages,

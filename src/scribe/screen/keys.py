@@ -69,6 +69,7 @@ _OF_TABLE = "A table that the book lacks is put into it, and stays there."
 _OF_IMPORT = "The book keeps what is imported. u strikes it, and nothing takes it out."
 _OF_LOST = "Enter opens the book again, and q ends. That key does nothing here."
 _HELP = "Keys "
+_HELP_SHOWN = "The keys are shown already. Escape goes back."
 # what shows keys also where ? is a letter
 _ASKS_FOR_KEYS = ("f1", "a-?")
 KEYS_OF_CHOICE = (
@@ -148,7 +149,7 @@ def _with_help(state: State) -> State:
     """The state in which the keys of what is being done are looked at, one a line."""
     under = state.pages
     if under is not None and under.title.startswith(_HELP):
-        return state
+        return state.saying(_HELP_SHOWN)
     what, lines = keys_of(state)
     return replace(state, pages=Pages(f"{_HELP}{what}.", lines, under=under))
 
