@@ -329,6 +329,10 @@ def test_two_lines_show_what_is_typed_until_a_key_has_something_said() -> None:
     # else what was refused looks like what was kept
     refused = draw(state.saying("Nothing was changed."))
     assert (refused.texts()[1], refused.cursor) == ("Nothing was changed.", (1, 0))
+    typed = replace(state, typed=Field(Purpose.AFTER, "It", 2), preview=None)
+    assert draw(typed).texts() == ["New paragraph, last kept: mark 1", "It"]
+    narrow = draw(replace(typed, size=Size(20, 4))).texts()
+    assert narrow == ["last kept: mark 1", "It", "New paragraph.", ""]
     note = replace(state, typed=Field(Purpose.NOTE, "why?", 4, said="On “moon”."))
     for said in (note, note.saying("On “moon”.")):
         drawn = draw(said)

@@ -140,7 +140,9 @@ def _title(state: State) -> Line:
     parts = [state.name, f"version {state.version:,}"]
     if table:
         parts.append(f"table {table}")
-    if paragraph and state.size.lines < _FEW_LINES:
+    if state.size.lines < _FEW_LINES and state.typed and state.typed.purpose.is_new:
+        parts.append("New paragraph")
+    elif paragraph and state.size.lines < _FEW_LINES:
         parts.append(title(paragraph, False))
     # the sentence below may speak of something later
     parts.append(f"last {state.kept}" if state.kept else "nothing kept yet")
@@ -357,6 +359,9 @@ def _place_lines(state: State) -> list[str]:
         said = f"You are editing paragraph {reading.paragraph.id}."
         return [opening(said, state.size.columns)]
     is_print = typed is not None and typed.purpose.is_print
+    if typed is not None and typed.purpose.is_new and state.size.lines < _FEW_LINES:
+        # where no line above what is typed says so
+        return [opening("New paragraph.", state.size.columns)]
     if is_print or reading is None or state.highlighted is None:
         return [""]
     line = _cursor_in_words(state, reading, state.highlighted)
