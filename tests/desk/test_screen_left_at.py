@@ -77,6 +77,7 @@ def test_a_text_that_waits_is_offered_at_its_own_paragraph(
     again = sit(moon)
     assert again.state.chosen == 1
     assert again.state.question and again.state.question.draft
+    assert again.state.message == ""
 
 
 WHOLE = {

@@ -22,7 +22,7 @@ from scribe.words.import_text import came_to, not_seen
 from scribe.words.paragraph import quoted
 
 SHOWS_KEYS = "? shows the keys."
-_OPENED_THERE = "The book is open where it was left."
+_OPENED_THERE = "The book is open where it was left. "
 _GOES_ON = "c and the same words go on."
 
 
@@ -37,7 +37,15 @@ def where_left(drafts: Drafts, state: State) -> State:
         return state
     pane = Pane.CELLS if left.is_in_cells else Pane.PRINT
     state = replace(state.at(places[0], left.place), pane=pane)
-    return state.saying(f"{_OPENED_THERE} {state.message}".rstrip())
+    return state.saying(f"{_OPENED_THERE}{state.message}".rstrip())
+
+
+def elsewhere(before: State, state: State) -> State:
+    """The state in which it isn't said any more that the book is open where it was left, if it isn't."""
+    where, here = (before.chosen, before.place), (state.chosen, state.place)
+    if where == here:
+        return state
+    return state.saying(f"{state.message} ".replace(_OPENED_THERE, "").rstrip())
 
 
 def with_cut(unsent: Unsent, state: State) -> State:

@@ -72,6 +72,7 @@ from scribe.screen.actions import (
 )
 from scribe.screen.at_opening import (
     SHOWS_KEYS,
+    elsewhere,
     reminded,
     where_left,
     with_answers,
@@ -207,7 +208,7 @@ class Desk:
         )
         state = with_cut(self._unsent, where_left(self.drafts, state))
         state = with_answers(self._unsent, state)
-        state = self._offered(state, self._unsent.waiting)
+        state = elsewhere(state, self._offered(state, self._unsent.waiting))
         state = reminded(self.drafts, self._session, state)
         state = with_changes(self.drafts, self._session, state)
         return refreshed(self._session, state)
