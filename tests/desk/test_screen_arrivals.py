@@ -221,7 +221,7 @@ def test_a_line_before_the_screen_is_there_is_kept_and_answers_no_offer(
 ) -> None:
     Drafts(moon).save(SOON)
     terminal = pressed_before(moon, at, "no\r")
-    terminal.wait("U brings it back, for a new paragraph.")
+    terminal.wait("What was typed at the question is set aside: “no”.")
     terminal.wait("Shall it be typed further? y is yes, n is no.")
     assert Drafts(moon).waiting() == SOON
     assert [each.text for each in Drafts(moon).given_up()] == ["no"]
@@ -239,7 +239,7 @@ def test_a_text_whose_first_letter_answers_no_offer_is_kept_from_that_letter_on(
     terminal.settle()
     time.sleep(0.5)
     terminal.send("Oh")
-    terminal.wait("U brings it back, for a new paragraph.")
+    terminal.wait("What was typed at the question is set aside: “Oh”.")
     assert Drafts(moon).waiting() == SOON
     assert [each.text for each in Drafts(moon).given_up()] == ["Oh"]
 

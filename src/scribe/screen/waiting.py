@@ -20,7 +20,13 @@ from scribe.screen.state import (
     draft_of_pasted,
     field_of,
 )
-from scribe.words.drafts import Unsent, changed_since, what_for, without_paragraph
+from scribe.words.drafts import (
+    Unsent,
+    changed_since,
+    typed_at_offer,
+    what_for,
+    without_paragraph,
+)
 from scribe.words.paragraph import counted, quoted
 
 _PASTED = (
@@ -29,6 +35,7 @@ _PASTED = (
 )
 
 _KEPT = "They are kept as a text, which U brings back."
+_BACK_LATER = "Once nothing is asked or typed any more, U brings it back."
 
 
 def with_text(
@@ -89,6 +96,8 @@ def _put_by(unsent: Unsent, state: State, action: PutBy) -> State:
     """Keeps a text that was pasted where nothing is typed, so that it can be typed."""
     draft = draft_of_pasted(state, action.text)
     said = f"{not_obeyed(draft.joined)} {_KEPT}" if action.is_last else _PASTED
+    if state.question is not None and state.question.is_offer and not action.is_last:
+        said = f"{typed_at_offer(draft.joined)} {_BACK_LATER}"
     return state.saying(f"{said} {unsent.put_by(draft)}".rstrip())
 
 
