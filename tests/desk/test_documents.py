@@ -48,9 +48,10 @@ from braildesk.desk.documents.reading import (
 )
 from braildesk.desk.documents.tree import Node, document
 from braildesk.desk.manuscript import UnreadableText
-from braildesk.desk.manuscripts import read_manuscript
+from braildesk.desk.manuscripts import Taken, read_manuscript
 from braildesk.desk.replacements import Replacer
 from scribe.words.import_text import unreadable
+from scribe.words.losses import report_lines
 
 from handmade import (
     deleted,
@@ -750,17 +751,24 @@ def test_a_long_paragraph_is_parted_at_a_sentence(
     assert {part.level for part in parts} == {2}
 
 
-def test_long_paragraphs_are_noted_by_their_first_words(tmp_path: Path) -> None:
+def test_long_paragraphs_are_noted_by_their_first_words_and_where_they_are_parted(
+    tmp_path: Path,
+) -> None:
     path = tmp_path / "long.md"
-    path.write_text("Twice a day the sea comes up. " * 150)
+    texts = ["Twice a day the sea comes up. " * 150, "and twice it goes " * 240]
+    # it is parted at a sentence too, and at a blank
+    texts += [f"So. {texts[1]}. Up. {'x' * 5_000}"]
+    path.write_text("\n\n".join(texts))
     found = read_manuscript(path)
-    assert [len(text) for text in found.texts] == [3_989, 509]
-    assert [loss for loss in found.losses if loss.what is LossKind.LENGTH] == [
-        Loss(
-            LossKind.LENGTH,
-            "",
-            "Twice a day the sea comes up. Twice a day the sea comes up.",
-        )
+    assert [len(text) for text in found.texts][:4] == [3_989, 509, 3_999, 319]
+    _, *lines = report_lines(path, Taken((), (), found))
+    assert lines == [
+        "1 paragraph is too long for a book, and is parted at its sentences:",
+        "- “Twice a day the sea comes up. Twice a day the sea comes up.”",
+        "1 paragraph is too long for a book, and is parted between words where no sentence ends:",
+        "- “and twice it goes and twice it goes and twice it goes and”",
+        "1 paragraph is too long for a book, and is parted where it has no blank:",
+        "- “So. and twice it goes and twice it goes and twice it goes”",
     ]
 
 

@@ -350,7 +350,7 @@ def too_much(count: int, most: int) -> str:
     return (
         f"With what was copied this would have {count:,} characters, and at most {most:,} can be pasted"
         " here. Nothing was typed. Save the text as a document, such as .odt or .docx: Ctrl+I imports"
-        " it, with long paragraphs parted at their sentences."
+        " it, with long paragraphs parted."
     )
 
 

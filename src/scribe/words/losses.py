@@ -143,6 +143,14 @@ _SAID = {
         "1 paragraph is too long for a book, and is parted at its sentences",
         "{} paragraphs are too long for a book, and are parted at their sentences",
     ),
+    LossKind.LONG_SENTENCE: (
+        "1 paragraph is too long for a book, and is parted between words where no sentence ends",
+        "{} paragraphs are too long for a book, and are parted between words where no sentence ends",
+    ),
+    LossKind.LONG_WORD: (
+        "1 paragraph is too long for a book, and is parted where it has no blank",
+        "{} paragraphs are too long for a book, and are parted where they have no blank",
+    ),
 }
 
 

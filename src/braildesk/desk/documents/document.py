@@ -38,16 +38,18 @@ from braildesk.desk.documents.reading import (
     Manuscript,
     Missing,
     Part,
+    parting,
     short_enough,
 )
 from braildesk.desk.documents.tree import FAULTS, document, said_beside
 from braildesk.desk.manuscript import UnreadableText
-from braildesk.text import limits
 
 #: The kinds that are containers.
 _PACKED = (ManuscriptKind.DOCX, ManuscriptKind.ODT, ManuscriptKind.EPUB)
 #: The kinds whose title, and what else is said about the whole, is a part of the print.
 _WITH_FRONT = (ManuscriptKind.DOCX, ManuscriptKind.ODT, ManuscriptKind.MARKDOWN)
+#: How many characters are shown of a paragraph that is parted.
+_SHOWN = 60
 
 
 def read_document(
@@ -178,8 +180,9 @@ def _readable(data: bytes, kind: ManuscriptKind) -> tuple[bytes, list[Loss]]:
 
 def _too_long(parts: tuple[Part, ...]) -> list[Loss]:
     """The paragraphs that are parted, each by its first words."""
+    ways = ((part.text[:_SHOWN], parting(part.text)) for part in parts)
     return [
-        Loss(LossKind.LENGTH, "", part.text[:60].rpartition(" ")[0])
-        for part in parts
-        if len(part.text) > limits.PRINT_CHARACTERS
+        Loss(way, "", front.rpartition(" ")[0] or front)
+        for front, way in ways
+        if way is not None
     ]

@@ -2,7 +2,7 @@
 
 import re
 from collections.abc import Iterator
-from dataclasses import dataclass
+from dataclasses import dataclass, replace
 from enum import Enum, auto
 from typing import TypeVar
 
@@ -39,6 +39,8 @@ class LossKind(Enum):
     SHEET = auto()
     LEVEL = auto()
     LENGTH = auto()
+    LONG_SENTENCE = auto()
+    LONG_WORD = auto()
     RAW = auto()
     NOTE = auto()
     NOTE_AGAIN = auto()
@@ -52,6 +54,10 @@ class LossKind(Enum):
     UNREAD = auto()
     ABSENT = auto()
     EMBEDDED = auto()
+
+
+#: How a text is parted that is too long, from the best way on.
+_WAYS = (LossKind.LENGTH, LossKind.LONG_SENTENCE, LossKind.LONG_WORD)
 
 
 @dataclass(frozen=True, slots=True)
@@ -118,30 +124,41 @@ def plain(text: str) -> str:
 
 
 def short_enough(part: Part) -> Iterator[Part]:
-    """A part, parted at its sentences if it is longer than a print may be."""
-    rest = part.text
-    while len(rest) > limits.PRINT_CHARACTERS:
-        stop = _stop(rest)
+    """A part, parted if it is longer than a print may be, at its sentences if that can be."""
+    for text, _ in _pieces(part.text):
+        yield replace(part, text=text)
+
+
+def parting(text: str) -> LossKind | None:
+    """How a text is parted, by the place in it that no sentence or no blank is at; None if it isn't."""
+    ways = [way for _, way in _pieces(text) if way is not None]
+    return max(ways, key=_WAYS.index, default=None)
+
+
+def _pieces(text: str) -> Iterator[tuple[str, LossKind | None]]:
+    """The pieces of a text that prints can have, each with what it ends at; the last ends with the text."""
+    while len(text) > limits.PRINT_CHARACTERS:
+        stop, way = _stop(text)
         if not stop:
             break
-        yield Part(rest[:stop].rstrip(" "), part.level, part.is_front)
-        rest = rest[stop:].lstrip(" ")
-    yield Part(rest, part.level, part.is_front)
+        yield text[:stop].rstrip(" "), way
+        text = text[stop:].lstrip(" ")
+    yield text, None
 
 
-def _stop(text: str) -> int:
-    """Where the front of a text ends that a print can have: at a sentence, a blank or a character."""
+def _stop(text: str) -> tuple[int, LossKind]:
+    """Where the front of a text ends that a print can have, and at what: at a sentence, a blank or a character."""
     most = limits.PRINT_CHARACTERS
     front = text[: most + 1]
     ends = [found.end() for found in _SENTENCE_END.finditer(front)]
     if ends:
-        return ends[-1]
+        return ends[-1], LossKind.LENGTH
     blank = front.rfind(" ")
     if blank > 0:
-        return blank
+        return blank, LossKind.LONG_SENTENCE
     stop = 0
     for sequence in sequences(front):
         if stop + len(sequence) > most:
             break
         stop += len(sequence)
-    return stop
+    return stop, LossKind.LONG_WORD
