@@ -325,3 +325,14 @@ def test_a_paragraph_is_noted_that_is_in_italics_by_its_style(tmp_path: Path) ->
         "In Letter",
         "In LetterEnd",
     ]
+
+
+def test_words_at_the_edges_of_pages_are_missing_there_and_not_in_the_text(
+    tmp_path: Path,
+) -> None:
+    body = paragraph(run("The moon is far "), symbol("Wingdings", "F04A"))
+    found = read_manuscript(docx(tmp_path / "a.docx", body, header="The moon"))
+    assert found.missing == (
+        Missing("Wingdings_F04A", "The moon is far", ""),
+        Missing("The moon", "", ""),
+    )

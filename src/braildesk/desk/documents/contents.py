@@ -132,6 +132,8 @@ class Contents:
     """The paragraphs of a document as its file has them, and what no paragraph gets of it."""
 
     passages: list[str] = field(default_factory=list)
+    #: What stands at the edges of its pages, which no paragraph has.
+    edges: list[str] = field(default_factory=list)
     losses: list[Loss] = field(default_factory=list)
     #: The numbers of lists and headings that aren't typed as they are in print.
     numbers: list[Loss] = field(default_factory=list)
@@ -157,7 +159,7 @@ class Contents:
     def add_edge(self, passage: str) -> None:
         """Adds what stands at the edge of pages, unless it is no more than their number."""
         if not _NUMBER.fullmatch(passage):
-            self.passages.append(passage)
+            self.edges.append(passage)
 
 
 def contents_of(data: bytes, kind: ManuscriptKind) -> Contents:

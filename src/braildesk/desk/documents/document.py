@@ -68,7 +68,7 @@ def read_document(
             return found
         # what LibreOffice leaves out is in no part of what it makes
         own = contents.contents_of(made, ManuscriptKind.DOCX)
-        texts = [*own.passages, *(loss.words for loss in own.losses)]
+        texts = [*own.passages, *own.edges, *(loss.words for loss in own.losses)]
         missing = contents.missing(rtf_words.passages_of(data), texts)
         return replace(found, missing=(*found.missing, *missing))
     if kind is ManuscriptKind.DOCX:
@@ -157,7 +157,8 @@ def _read(
     missing = contents.missing(passages, [part.text for part in found.parts])
     if kind is ManuscriptKind.MARKDOWN:
         missing += markdown_words.missing_of(data.decode(), texts, missing)
-    missing += [Missing(text, "", "") for text in beside]
+    edges = (" ".join(contents.words_of(each)) for each in own.edges)
+    missing += [Missing(text, "", "") for text in (*edges, *beside) if text]
     parts = tuple(each for part in found.parts for each in short_enough(part))
     losses = (*found.losses, *own.numbers, *_too_long(found.parts), *own.losses)
     losses += tuple(unmarked)
