@@ -1,5 +1,7 @@
-"""Documents in DOCX, made by hand, with what those who write texts put into them."""
+"""Documents made by hand, mostly in DOCX, with what those who write texts put into them."""
 
+import re
+import struct
 import zipfile
 from collections.abc import Iterable, Sequence
 from pathlib import Path
@@ -208,3 +210,99 @@ def odt(path: Path, text: str, automatic: str = "", styles: str = "") -> Path:
         for name, part in parts.items():
             container.writestr(name, part)
     return path
+
+
+_SECTOR, _NONE, _END = 512, 0xFFFF_FFFF, 0xFFFF_FFFE
+
+
+def doc(story: str, kinds: Sequence[int], others: Sequence[str] = ("",) * 7) -> bytes:
+    """A text in DOC with fields of some kinds, and the stories after it, as its notes; each other piece of it has one
+    byte for each character."""
+    signs = [
+        (each.start(), each[0].encode()) for each in re.finditer("[\x13-\x15]", story)
+    ]
+    places = (*(place for place, _ in signs), len(story))
+    said = iter(kinds)
+    fields = struct.pack(f"<{len(places)}I", *places)
+    fields += b"".join(
+        s + bytes([next(said) if s == b"\x13" else 255]) for _, s in signs
+    )
+    whole, front = "".join((story, *others)), 1_024
+    ends = [*range(0, len(whole), 7), len(whole)]
+    text, pieces = b"", b""
+    for number, (start, stop) in enumerate(zip(ends, ends[1:])):
+        place, is_narrow = front + len(text), number % 2
+        pieces += struct.pack("<HIH", 0, place * 2 | 1 << 30 if is_narrow else place, 0)
+        text += whole[start:stop].encode("cp1252" if is_narrow else "utf-16-le")
+    pieces = struct.pack(f"<{len(ends)}I", *ends) + pieces
+    looks = struct.pack("<BH3s", 1, 3, b"abc")
+    table = fields + looks + struct.pack("<BI", 2, len(pieces)) + pieces
+    tables = [0] * 2 * 93
+    tables[2 * 16 : 2 * 17] = 0, len(fields)
+    tables[2 * 33 : 2 * 34] = len(fields), len(table) - len(fields)
+    lengths = [0, 0, 0, *map(len, (story, *others)), *[0] * 11]
+    parts = struct.pack("<HHHHHH20x", 0xA5EC, 0xC1, 0, 0, 0, 0x0200)
+    parts += struct.pack("<H28xH", 14, 22) + struct.pack("<22i", *lengths[:22])
+    parts += struct.pack("<H", 93) + struct.pack("<186I", *tables)
+    return _compound(parts.ljust(front, b"\0") + text.ljust(4_096, b"\0"), table)
+
+
+def _compound(text: bytes, table: bytes) -> bytes:
+    """The container of a text, whose sectors stand there from the last one on, and of its tables, which are small."""
+    small = table.ljust(-(-len(table) // _SECTOR) * _SECTOR, b"\0")
+    text = text.ljust(-(-len(text) // _SECTOR) * _SECTOR, b"\0")
+    first = 3 + len(small) // _SECTOR
+    last = first + len(text) // _SECTOR - 1
+    follow = [_END] * 3 + [*range(4, first), _END] + [_END, *range(first, last)]
+    inner = [*range(1, -(-len(table) // 64)), _END]
+    entries = [
+        ("Root Entry", 5, 3, len(small)),
+        ("WordDocument", 2, last, len(text)),
+        ("1Table", 2, 0, len(table)),
+    ]
+    directory = b"".join(
+        struct.pack(
+            "<64sHBB48sIII",
+            f"{name}\0".encode("utf-16-le"),
+            2 * len(name) + 2,
+            kind,
+            1,
+            b"",
+            *place,
+            0,
+        )
+        for name, kind, *place in entries
+    )
+    head = struct.pack(
+        "<Q16xHHHHH6xIIIIIIIII",
+        0xE11A_B1A1_E011_CFD0,
+        62,
+        3,
+        0xFFFE,
+        9,
+        6,
+        0,
+        1,
+        1,
+        0,
+        4_096,
+        2,
+        1,
+        _END,
+        0,
+    )
+    head += struct.pack("<109I", 0, *[_NONE] * 108)
+    sectors = [text[n : n + _SECTOR] for n in range(0, len(text), _SECTOR)]
+    return b"".join(
+        (
+            head,
+            *(
+                struct.pack("<128I", *part, *[_NONE] * (128 - len(part)))
+                for part in (follow,)
+            ),
+            directory.ljust(_SECTOR, b"\0"),
+            struct.pack("<128I", *inner, *[_NONE] * (128 - len(inner))),
+            small,
+            *reversed(sectors),
+        )
+    )

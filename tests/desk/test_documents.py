@@ -55,6 +55,7 @@ from scribe.words.losses import report_lines
 
 from handmade import (
     deleted,
+    doc,
     docx,
     inserted,
     level,
@@ -1588,6 +1589,58 @@ def test_fields_of_rtf_that_say_something_of_a_file_are_typed_as_they_stand_ther
     text = r"{{\rtf1 {{\field{}{{\fldrslt moon.rtf}}}}}}"
     read_document(text.format(code).encode(), ManuscriptKind.RTF)
     assert seen.read_text() == text.format(kept)
+
+
+@pytest.mark.parametrize(
+    "story, kinds, shown",
+    [
+        ("On \x13 DATE \x14" + "7 May 1998\x15.", [31], [89]),
+        ("\x13 REF a \x14one\x15, \x13 HYPERLINK b \x14two\x15", [3, 88], [89, 88]),
+        ("\x13 QUOTE \x14" + "a \x13 SECTION \x14" + "3\x15\x15", [35, 65], [89, 89]),
+        # with a field in its code another kind loses what is after it
+        ("\x13 IF \x13 PAGE \x14" + "3\x15 = 3 \x14y\x15", [7, 33], [10, 89]),
+        ("\x13 LINK \x13 a \x14" + "b\x15 c \x14" + "d\x15", [88, 59], [10, 89]),
+        ("\x13 TC \x13 PAGE \x15\x15 \x15\x14 a", [9, 33], [9, 33]),
+    ],
+)
+def test_fields_of_doc_are_typed_as_they_stand_there(
+    programs: Path, tmp_path: Path, story: str, kinds: list[int], shown: list[int]
+) -> None:
+    made = docx(tmp_path / "made.docx", paragraph(run("Made")))
+    seen = tmp_path / "seen.doc"
+    program(
+        programs,
+        "soffice",
+        f'cp "$7" {seen}',
+        'mkdir -p "$6"',
+        f'cp {made} "$6/manuscript.docx"',
+    )
+    read_document(doc(story, kinds), ManuscriptKind.DOC)
+    assert seen.read_bytes() == doc(story, shown)
+
+
+def test_words_of_doc_that_libreoffice_leaves_out_are_missing(
+    tmp_path: Path, programs: Path
+) -> None:
+    letters = "".join(symbol("Wingdings", f"F0{ord(each):X}") for each in "abc")
+    made = docx(tmp_path / "made.docx", paragraph(run("One two ") + letters))
+    program(programs, "soffice", 'mkdir -p "$6"', f'cp {made} "$6/manuscript.docx"')
+    story = (
+        "One \x13 DATE \\@ d \x14two\x15 abc\rand three\x07\x13 SET a four \x14"
+        + "five\x15"
+    )
+    others = ("A note.\r", "An edge.\r", "", "", "", "In a box, na\u00efve.\r", "")
+    read = read_document(doc(f"{story}\r", [31, 6], others), ManuscriptKind.DOC)
+    assert [each.words for each in read.missing] == [
+        "Wingdings_F061 Wingdings_F062 Wingdings_F063",
+        "and three",
+        "A note",
+        "In a box na\u00efve",
+    ]
+    # of one that is damaged nothing is known
+    for length in (30, 600, 1_700, 4_000):
+        cut = doc(story, [31, 6])[:length]
+        assert len(read_document(cut, ManuscriptKind.DOC).missing) == 1
 
 
 @pytest.mark.parametrize(

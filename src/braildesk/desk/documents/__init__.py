@@ -6,8 +6,8 @@ gets it, `numbers` writes the numbers that Word shows into a DOCX, `word_print` 
 `tables_of_odt` keeps the places of cells, `table_places` counts those in which none begins, as
 `markdown_tables` does, `package` has the pages of an EPUB, `pages` keeps the names of their links
 and `quotations` their marks, `markdown_notes` those of notes, and `markdown_front` has one front
-alone for one; before LibreOffice does, `rtf_fields` keeps the results of fields. `tree` makes
-paragraphs of what pandoc gives, with the notes that `notes` and `ways_back` find, of which `nodes`
-has the words, and the tags that `raw_html` does, and `contents` has all words of the file, to be
-compared with them.
+alone for one; before LibreOffice does, `rtf_fields` and `doc_text` keep the results of fields, this
+by what `streams` finds. `tree` makes paragraphs of what pandoc gives, with the notes that `notes`
+and `ways_back` find, of which `nodes` has the words, and the tags that `raw_html` does, and
+`contents` has all words of the file, to be compared with them.
 """

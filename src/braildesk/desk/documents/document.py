@@ -2,7 +2,7 @@
 
 Documents are read by pandoc (`pages`, `package`, `numbers`, `word_print`, `numbers_of_odt`,
 `tables_of_odt`, `pandoc`, `tree`, `notes`). What it leaves out without a sign is found by comparing the
-words of its paragraphs with those that the file itself has (`contents`, `markdown_words`, `rtf_words`).
+words of its paragraphs with those that the file itself has (`contents`, `markdown_words`, `rtf_words`, `doc_text`).
 
 RTF and DOC are turned into DOCX by LibreOffice first: pandoc loses print of the one without a word, and
 doesn't read the other. ODT is where pandoc loses words of it, as those of a table of contents, or
@@ -11,7 +11,14 @@ numbers, if fewer are lost so: the text boxes that LibreOffice makes of frames a
 
 from dataclasses import replace
 
-from braildesk.desk.documents import contents, markdown_words, pages, pandoc, rtf_words
+from braildesk.desk.documents import (
+    contents,
+    doc_text,
+    markdown_words,
+    pages,
+    pandoc,
+    rtf_words,
+)
 from braildesk.desk.documents.contents import Contents
 from braildesk.desk.documents.kinds import (
     ManuscriptKind,
@@ -64,12 +71,15 @@ def read_document(
     if kind in (ManuscriptKind.RTF, ManuscriptKind.DOC):
         made = pandoc.as_docx(data, kind, name)
         found = replace(_read_docx(made, reading), kind=kind)
-        if kind is ManuscriptKind.DOC:
-            return found
         # what LibreOffice leaves out is in no part of what it makes
         own = contents.contents_of(made, ManuscriptKind.DOCX)
         texts = [*own.passages, *own.edges, *(loss.words for loss in own.losses)]
-        missing = contents.missing(rtf_words.passages_of(data), texts)
+        if kind is ManuscriptKind.DOC:
+            passages = doc_text.passages_of(data)
+            texts += doc_text.letters_of(made)
+        else:
+            passages = rtf_words.passages_of(data)
+        missing = contents.missing(passages, texts)
         return replace(found, missing=(*found.missing, *missing))
     if kind is ManuscriptKind.DOCX:
         return _read_docx(data, reading)

@@ -20,6 +20,7 @@ from xml.sax.saxutils import escape
 from zipfile import ZipFile
 
 from braildesk.confined import Limits, confined
+from braildesk.desk.documents import doc_text, rtf_fields
 from braildesk.desk.documents.kinds import (
     BrokenOff,
     ManuscriptKind,
@@ -32,7 +33,6 @@ from braildesk.desk.documents.kinds import (
     part_of,
     unpacked,
 )
-from braildesk.desk.documents.rtf_fields import as_shown
 from braildesk.desk.documents.rtf_groups import as_one_group
 from braildesk.desk.manuscript import UnreadableText
 
@@ -122,9 +122,7 @@ def as_docx(data: bytes, kind: ManuscriptKind, name: str) -> bytes:
     with tempfile.TemporaryDirectory() as folder:
         # no text has that name, nor the folder's
         source = Path(folder, f"{Path(folder).name}.{kind.value}")
-        source.write_bytes(
-            as_shown(as_one_group(data)) if kind is ManuscriptKind.RTF else data
-        )
+        source.write_bytes(_as_shown(data, kind))
         profile = Path(folder, "profile")
         settings = profile / "user" / "registrymodifications.xcu"
         settings.parent.mkdir(parents=True)
@@ -136,6 +134,13 @@ def as_docx(data: bytes, kind: ManuscriptKind, name: str) -> bytes:
         if made is None:
             raise NotConverted("LibreOffice", "")
         return _named(made.read_bytes(), source, name)
+
+
+def _as_shown(data: bytes, kind: ManuscriptKind) -> bytes:
+    """A document all of which LibreOffice reads, with the results of its fields."""
+    if kind is ManuscriptKind.RTF:
+        return rtf_fields.as_shown(as_one_group(data))
+    return doc_text.as_shown(data) if kind is ManuscriptKind.DOC else data
 
 
 def _named(data: bytes, source: Path, name: str) -> bytes:

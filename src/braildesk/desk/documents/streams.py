@@ -1,0 +1,106 @@
+"""The streams of a container of older programs, as a text in DOC is: pieces that stand in any order in it."""
+
+import struct
+from collections.abc import Iterator, Sequence
+from dataclasses import dataclass
+from itertools import islice
+
+#: What is raised where a container is damaged.
+DAMAGED = (struct.error, LookupError, ValueError, OverflowError)
+
+#: Where the front of a container says what its sectors are, and how many of the sectors of their table it names.
+_SECTORS, _FIRST_SECTORS = 30, 109
+#: From here on a number is that of no sector.
+_NONE = 0xFFFF_FFFA
+#: How long an entry of the directory is, where in it the kind and the place are, and the kind of the first.
+_ENTRY, _KIND, _PLACE, _ROOT = 128, 66, 116, 5
+
+
+@dataclass(frozen=True, slots=True)
+class Stream:
+    """Where in a container the pieces of a stream begin, which are as long as each other."""
+
+    fronts: Sequence[int]
+    step: int
+
+    def place(self, offset: int) -> int:
+        """Where in the container a byte is."""
+        number, rest = divmod(offset, self.step)
+        return self.fronts[number] + rest
+
+    def of(self, data: bytes) -> bytes:
+        """The bytes of it in a container, with what is after its end in its last piece."""
+        return b"".join(data[front : front + self.step] for front in self.fronts)
+
+
+def streams_of(data: bytes) -> dict[str, Stream]:
+    """The streams of a container by their names; raises what `DAMAGED` has."""
+    reader = _Reader(data)
+    directory = reader.stream(reader.first_of_directory).of(data)
+    found: dict[str, Stream] = {}
+    inner = Stream((), reader.step)
+    for front in range(0, len(directory), _ENTRY):
+        (length,) = struct.unpack_from("<H", directory, front + 64)
+        name = directory[front : front + max(length - 2, 0)].decode("utf-16-le")
+        first, size = struct.unpack_from("<II", directory, front + _PLACE)
+        if directory[front + _KIND] == _ROOT:
+            inner = reader.stream(first)
+        elif size < reader.least:
+            found[name] = reader.small_stream(first, inner)
+        else:
+            found[name] = reader.stream(first)
+    return found
+
+
+class _Reader:
+    """What follows the sectors of a container."""
+
+    def __init__(self, data: bytes) -> None:
+        self._data = data
+        shift, small_shift = struct.unpack_from("<HH", data, _SECTORS)
+        if shift not in (9, 12) or small_shift != 6:
+            raise ValueError(shift, small_shift)
+        self.step, self._small_step = 1 << shift, 1 << small_shift
+        (self.first_of_directory,) = struct.unpack_from("<I", data, 48)
+        self.least, first_of_small = struct.unpack_from("<II", data, 56)
+        # a table may name one sector many times: no more of it is read than there are sectors
+        numbers = islice(self._numbers(), -(-len(data) // (self.step * self.step // 4)))
+        self._table = [each for number in numbers for each in self._sector(number)]
+        small = self.stream(first_of_small).of(data)
+        self._small_table = struct.unpack(f"<{len(small) // 4}I", small)
+
+    def stream(self, first: int) -> Stream:
+        """A stream of sectors, from the first one on."""
+        chain = _chain(first, self._table)
+        return Stream([(each + 1) * self.step for each in chain], self.step)
+
+    def small_stream(self, first: int, inner: Stream) -> Stream:
+        """A stream of smaller sectors, which stand in another stream."""
+        chain = _chain(first, self._small_table)
+        fronts = [inner.place(each * self._small_step) for each in chain]
+        return Stream(fronts, self._small_step)
+
+    def _numbers(self) -> Iterator[int]:
+        """The sectors in which it stands which sector follows each."""
+        (following,) = struct.unpack_from("<I", self._data, 68)
+        numbers: Sequence[int] = struct.unpack_from(
+            f"<{_FIRST_SECTORS}I", self._data, 76
+        )
+        while True:
+            yield from (each for each in numbers if each < _NONE)
+            if following >= _NONE:
+                return
+            *numbers, following = self._sector(following)
+
+    def _sector(self, number: int) -> tuple[int, ...]:
+        count, front = self.step // 4, (number + 1) * self.step
+        return struct.unpack_from(f"<{count}I", self._data, front)
+
+
+def _chain(first: int, table: Sequence[int]) -> list[int]:
+    """The sectors that follow each other from one on; no more than there are."""
+    found: list[int] = []
+    while first < _NONE and len(found) <= len(table):
+        found.append(first)
+        first = table[first]
+    return found
