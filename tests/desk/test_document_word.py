@@ -336,3 +336,25 @@ def test_words_at_the_edges_of_pages_are_missing_there_and_not_in_the_text(
         Missing("Wingdings_F04A", "The moon is far", ""),
         Missing("The moon", "", ""),
     )
+
+
+def test_what_is_shown_of_the_code_of_a_field_is_missing_if_it_has_no_result(
+    tmp_path: Path,
+) -> None:
+    def field(code: str, *result: str) -> str:
+        signs = [f'<w:fldChar w:fldCharType="{each}"/>' for each in ("begin", "end")]
+        codes = (f"<w:instrText>{each}</w:instrText>" for each in code.split("|"))
+        pieces = [f"<w:r>{each}</w:r>" for each in (signs[0], *codes)]
+        return "".join((*pieces, *result, f"<w:r>{signs[1]}</w:r>"))
+
+    middle = '<w:r><w:fldChar w:fldCharType="separate"/></w:r>'
+    body = paragraph(
+        run("Half is "),
+        field("EQ |\\* hps10 \\f(1a;2b\\, c)"),
+        field(" MACROBUTTON Run Press here", middle),
+        field("MACROBUTTON Run Not here", middle, run("pressed")),
+        field("DATE"),
+    )
+    found = read_manuscript(docx(tmp_path / "a.docx", body))
+    assert found.texts == ["Half is pressed"]
+    assert [each.words for each in found.missing] == ["1a 2b c", "Press here"]

@@ -1626,20 +1626,21 @@ def test_words_of_doc_that_libreoffice_leaves_out_are_missing(
     made = docx(tmp_path / "made.docx", paragraph(run("One two ") + letters))
     program(programs, "soffice", 'mkdir -p "$6"', f'cp {made} "$6/manuscript.docx"')
     story = (
-        "One \x13 DATE \\@ d \x14two\x15 abc\rand three\x07\x13 SET a four \x14"
+        "One \x13 DATE \\@ d \x14two\x15 abc\x13 EQ \\f(x;six) \x15\rand three\x07\x13 SET a four \x14"
         + "five\x15"
     )
     others = ("A note.\r", "An edge.\r", "", "", "", "In a box, na\u00efve.\r", "")
-    read = read_document(doc(f"{story}\r", [31, 6], others), ManuscriptKind.DOC)
+    read = read_document(doc(f"{story}\r", [31, 49, 6], others), ManuscriptKind.DOC)
     assert [each.words for each in read.missing] == [
         "Wingdings_F061 Wingdings_F062 Wingdings_F063",
+        "x six",
         "and three",
         "A note",
         "In a box na\u00efve",
     ]
     # of one that is damaged nothing is known
     for length in (30, 600, 1_700, 4_000):
-        cut = doc(story, [31, 6])[:length]
+        cut = doc(story, [31, 49, 6])[:length]
         assert len(read_document(cut, ManuscriptKind.DOC).missing) == 1
 
 
@@ -1651,6 +1652,11 @@ def test_words_of_doc_that_libreoffice_leaves_out_are_missing(
         (r"{\rtf1 one\}\bin3 }}} two}", r"{\rtf1 one\}\bin3 }}} two}"),
         ("{\\rtf1 one}\r\n\0", "{\\rtf1 one}\r\n\0"),
         (r"{\rtf1 one", r"{\rtf1 one"),
+        # LibreOffice would type both of what is written twice
+        (
+            r"{\rtf1 {\upr{m?n}{\*\ud{moon}}} \\upr{a}}",
+            r"{\rtf1 {\upr{\*\uprx m?n}{\*\ud{moon}}} \\upr{a}}",
+        ),
     ],
 )
 def test_what_stands_in_rtf_after_the_end_of_its_group_is_read(
@@ -1699,6 +1705,15 @@ off}",
         (r"{\rtf1\pc one two \'82}", ["\xe9"]),
         (r"{\rtf1\pca one two \'b5}", ["\xc1"]),
         (
+            r"{\rtf1 one{\field{\*\fldinst EQ \\f(moon;se\u228 ?a)\par}{\fldrslt }} two{\field{\*\fldinst {HYPERLINK}\~a}}}",
+            ["moon se\u00e4a"],
+        ),
+        (
+            r"{\rtf1 one{\pict{\*\picprop{\sp{\sn wzName}{\sv sea}}{\sp{\sn wzDescription}{\sv moon}}}89} two"
+            r"{\header{\pict{\sp{\sn wzDescription}{\sv sea}}}}}",
+            ["moon"],
+        ),
+        (
             r"{\rtf1 one t{\revised w}{\deleted s\u228 ?a\rquote\_}o \deleted far\deleted0  {\deleted m\plain sea}}",
             ["sea"],
         ),
@@ -1712,6 +1727,32 @@ def test_words_of_rtf_that_libreoffice_leaves_out_are_missing(
     found = read_document(text.encode(), ManuscriptKind.RTF)
     assert found.texts == ["one two"]
     assert [each.words for each in found.missing] == missing
+
+
+def test_pictures_of_rtf_of_which_one_is_described_are_not_said_to_have_no_description(
+    tmp_path: Path, programs: Path
+) -> None:
+    made, dots = tmp_path / "made.docx", tmp_path / "dots.png"
+    dots.write_bytes(b"\x89PNG\r\n\x1a\n")
+    words = ["pandoc", "--from", "markdown", "--to", "docx", "--output", str(made)]
+    subprocess.run(words, input=f"One ![]({dots})".encode(), check=True)
+    program(programs, "soffice", 'mkdir -p "$6"', f'cp {made} "$6/manuscript.docx"')
+    text = r"{\rtf1 One {\pict{\*\picprop{\sp{\sn wzDescription}{\sv %s}}}89}}"
+    said = []
+    for description in ("A moon", ""):
+        found = read_document((text % description).encode(), ManuscriptKind.RTF)
+        _, *lines = report_lines(Path("a.rtf"), Taken((), (), found))
+        said.append(lines)
+    place = "- at “One”"
+    assert said == [
+        [
+            "2 words of the file will be in no paragraph:",
+            "- “A moon”, after “One”",
+            "1 picture is left out, with its description if it has one:",
+            place,
+        ],
+        ["1 picture without a description is left out:", place],
+    ]
 
 
 def test_odt_is_taken_as_it_loses_fewer_words(tmp_path: Path, programs: Path) -> None:

@@ -50,6 +50,10 @@ _SAID = {
         "1 picture without a description is left out",
         "{} pictures without a description are left out",
     ),
+    LossKind.DESCRIBED: (
+        "1 picture is left out, with its description if it has one",
+        "{} pictures are left out, with their descriptions if they have some",
+    ),
     LossKind.RAW: (
         "1 piece in the language of another program is left out",
         "{} pieces in the language of another program are left out",
@@ -220,7 +224,7 @@ def _losses(losses: Sequence[Loss], most: int | None) -> Iterator[str]:
 
 
 def _around(loss: Loss) -> str:
-    if loss.what is LossKind.PICTURE:
+    if loss.what in (LossKind.PICTURE, LossKind.DESCRIBED):
         return f"at “{visible(loss.around)}”" if loss.around else "at the front"
     if not loss.words or loss.words == loss.around:
         return f"“{visible(loss.around)}”"

@@ -14,6 +14,7 @@ from itertools import islice
 from pathlib import PurePosixPath
 from xml.etree.ElementTree import Element
 
+from braildesk.desk.documents.field_codes import shown_of_code
 from braildesk.desk.documents.kinds import (
     ManuscriptKind,
     NoDocument,
@@ -354,6 +355,7 @@ def _of_docx(container: zipfile.ZipFile, found: Contents) -> None:
         if _DOCX_TEXTS.fullmatch(name):
             root = _root(container, name)
             found.passages += _paragraphs(root)
+            found.passages += filter(None, map(shown_of_code, _codes(root)))
             _set_aside(root, found)
         elif _DOCX_EDGES.fullmatch(name):
             for passage in _paragraphs(_root(container, name)):
@@ -399,6 +401,21 @@ def _paragraphs(element: Element) -> Iterator[str]:
             yield text
         for box in inner:
             yield from _paragraphs(box)
+
+
+def _codes(root: Element) -> Iterator[str]:
+    """The codes of the fields of a part that have neither results nor fields in them."""
+    code = ""
+    for element in root.iter():
+        if element.tag == f"{_W}fldChar":
+            kind = element.get(f"{_W}fldCharType")
+            if kind == "end":
+                yield code
+            code = code if kind == "separate" else ""
+        elif element.tag == f"{_W}instrText":
+            code += element.text or ""
+        elif element.tag == f"{_W}t" and element.text:
+            code = ""
 
 
 def _is_drop_cap(paragraph: Element) -> bool:

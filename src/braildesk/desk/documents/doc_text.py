@@ -10,6 +10,7 @@ from collections.abc import Iterator
 from itertools import pairwise
 from xml.etree.ElementTree import Element
 
+from braildesk.desk.documents.field_codes import formula_of_code
 from braildesk.desk.documents.kinds import part_of, root_of, unpacked
 from braildesk.desk.documents.streams import DAMAGED, Stream, streams_of
 
@@ -164,8 +165,10 @@ def _print(story: str) -> Iterator[str]:
                 unseen[-1] = _UNSEEN.match(codes[-1]) is not None
                 hidden += unseen[-1]
             case "\x15" if codes:
-                codes.pop()
-                hidden -= unseen.pop()
+                code, is_unseen = codes.pop(), unseen.pop()
+                hidden -= is_unseen
+                # it may have no result
+                yield formula_of_code(code) if is_unseen and not hidden else ""
             case _ if not hidden:
                 yield piece
             case _:

@@ -79,6 +79,8 @@ def read_document(
             texts += doc_text.letters_of(made)
         else:
             passages = rtf_words.passages_of(data)
+            if rtf_words.has_descriptions(data):
+                found = replace(found, losses=tuple(map(_described, found.losses)))
         missing = contents.missing(passages, texts)
         return replace(found, missing=(*found.missing, *missing))
     if kind is ManuscriptKind.DOCX:
@@ -90,6 +92,12 @@ def read_document(
     if kind is ManuscriptKind.ODT:
         return _read_odt(data, reading, name)
     return _read(data, kind, contents.contents_of(data, kind), reading)
+
+
+def _described(loss: Loss) -> Loss:
+    """What is lost of a document of which LibreOffice leaves out what describes its pictures."""
+    is_picture = loss.what is LossKind.PICTURE
+    return replace(loss, what=LossKind.DESCRIBED) if is_picture else loss
 
 
 def _read_odt(data: bytes, reading: ReadingOptions, name: str) -> Manuscript:

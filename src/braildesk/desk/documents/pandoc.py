@@ -33,7 +33,7 @@ from braildesk.desk.documents.kinds import (
     part_of,
     unpacked,
 )
-from braildesk.desk.documents.rtf_groups import as_one_group
+from braildesk.desk.documents.rtf_groups import as_one_group, without_older
 from braildesk.desk.manuscript import UnreadableText
 
 #: How many seconds a program is waited for that has less than a hundredth of them of a processor: it waits for
@@ -139,7 +139,7 @@ def as_docx(data: bytes, kind: ManuscriptKind, name: str) -> bytes:
 def _as_shown(data: bytes, kind: ManuscriptKind) -> bytes:
     """A document all of which LibreOffice reads, with the results of its fields."""
     if kind is ManuscriptKind.RTF:
-        return rtf_fields.as_shown(as_one_group(data))
+        return rtf_fields.as_shown(without_older(as_one_group(data)))
     return doc_text.as_shown(data) if kind is ManuscriptKind.DOC else data
 
 

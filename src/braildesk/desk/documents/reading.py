@@ -34,6 +34,7 @@ class LossKind(Enum):
     SAME = auto()
     BOX = auto()
     PICTURE = auto()
+    DESCRIBED = auto()
     NUMBER = auto()
     LIST = auto()
     SHEET = auto()

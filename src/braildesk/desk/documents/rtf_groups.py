@@ -1,4 +1,7 @@
-"""Groups of RTF, of which LibreOffice reads nothing after the end of the outermost one."""
+"""Groups of RTF, of which LibreOffice reads nothing after the end of the outermost one.
+
+Of text that is written twice, for older programs too, it types both.
+"""
 
 import re
 
@@ -6,6 +9,14 @@ import re
 _SIGNS = re.compile(rb"\\bin([0-9]{1,9}) ?|\\.|[{}]", re.DOTALL)
 #: What may stand after the end of a text and is none.
 _NOTHING = b"\0\x1a \t\r\n}"
+#: Where what older programs read begins, of which those that know nothing of its name read nothing.
+_OLDER = re.compile(rb"(?<!\\)((?:\\\\)*+)\\upr(?![a-zA-Z])\s*\{")
+_UNKNOWN = rb"\1\\upr{\\*\\uprx "
+
+
+def without_older(data: bytes) -> bytes:
+    """A text in RTF of whose text that is written twice only that for newer programs is read."""
+    return _OLDER.sub(_UNKNOWN, data)
 
 
 def as_one_group(data: bytes) -> bytes:

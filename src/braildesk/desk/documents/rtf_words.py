@@ -4,6 +4,8 @@ import codecs
 import re
 from dataclasses import dataclass, replace
 
+from braildesk.desk.documents.field_codes import formula_of_code
+
 _SIGNS = re.compile(
     rb"\\bin(?P<count>[0-9]{1,9}) ?|\\'(?P<byte>[0-9a-fA-F]{2})|\\(?P<word>[a-zA-Z]+)(?P<number>-?[0-9]{1,9})? ?"
     rb"|\\(?P<sign>.)|(?P<group>[{}])|(?P<text>[^\\{}\r\n]+)|[\r\n]+|\\",
@@ -11,11 +13,17 @@ _SIGNS = re.compile(
 )
 #: Groups without print; of those that other programs may pass over, these have some.
 _SILENT = frozenset(
-    b"fonttbl colortbl stylesheet info pict fldinst listtext pntext shprslt nonshppict objdata sp ftnsep ftnsepc"
+    b"fonttbl colortbl stylesheet info pict listtext pntext shprslt nonshppict objdata sp ftnsep ftnsepc"
     b" ftncn aftnsep aftnsepc aftncn xe tc txe rxe filetbl nonesttables private template background upr mmath"
     b" header headerl headerr headerf footer footerl footerr footerf objclass objname".split()
 )
-_WITH_PRINT = frozenset(b"shpinst shptxt ud".split())
+_WITH_PRINT = frozenset(b"fldinst shpinst shptxt ud".split())
+#: The code of a field, of which print shows little.
+_CODE = b"fldinst"
+#: What is said of a picture by its name, as what describes it, and the groups in which that stands.
+_DESCRIPTION = b"wzDescription"
+_OF_PICTURES = frozenset((b"pict", b"sp"))
+_DESCRIBED = re.compile(rb"\{\\sn\s*wzDescription\}\s*\{\\sv\s+[^\s}]")
 #: Groups whose print stands elsewhere, as that of a note does.
 _APART = frozenset((b"footnote", b"shptxt"))
 #: What ends a paragraph, and what parts words.
@@ -60,6 +68,11 @@ class _Group:
     is_in_fonts: bool = False
     is_apart: bool = False
     is_deleted: bool = False
+    #: Whether it has the name of what is said of a picture; and no picture in it is seen.
+    is_name: bool = False
+    is_away: bool = False
+    #: Of the code of a field, how many pieces of text stood before it, if it is one and these are whole.
+    before: int | None = None
     font: int = 0
     beside: int = 1
 
@@ -82,6 +95,8 @@ class _Reader:
         self._page = _LATIN
         self._usual = 0
         self._skipped = 0
+        #: The name of what is said next of a picture.
+        self._name = b""
 
     def read(self, data: bytes) -> None:
         """Reads all signs of a text."""
@@ -108,7 +123,12 @@ class _Reader:
             self._group = replace(self._group, is_begun=False, is_apart=False)
         elif self._outer:
             self._text += [" "] if self._group.is_apart else []
-            self._group = self._outer.pop()
+            before, self._group = self._group.before, self._outer.pop()
+            if before is not None and self._group.before is None:
+                code = "".join(self._text[before:])
+                self._text[before:] = (
+                    [shown] if (shown := formula_of_code(code)) else []
+                )
 
     def _word(self, word: bytes, number: bytes | None) -> None:
         self._decode()
@@ -141,6 +161,8 @@ class _Reader:
                 self._page = _known(f"cp{value}")
             case _ if self._group.is_silent:
                 pass
+            case _ if word in _ENDS and group.before is not None:
+                self._text.append(" ")
             case _ if word in _ENDS:
                 self._end()
             case _ if word in _PARTING:
@@ -153,6 +175,11 @@ class _Reader:
         group = self._group
         is_silent = group.is_silent or word in _SILENT
         is_silent |= group.is_passed_over and word not in _WITH_PRINT
+        is_away = group.is_away or word in _SILENT - _OF_PICTURES
+        is_description = word == b"sv" and self._name.strip() == _DESCRIPTION
+        is_silent &= is_away or not is_description
+        if word == b"sn":
+            self._name = b""
         if word == b"ud":
             # this one stands in one that has the same in other characters, and is as that around both
             is_silent = any(each.is_silent for each in self._outer[-2:-1])
@@ -162,15 +189,23 @@ class _Reader:
             is_begun=True,
             is_passed_over=False,
             is_in_fonts=group.is_in_fonts or word == b"fonttbl",
-            is_apart=word in _APART,
+            is_apart=word in _APART or is_description,
+            is_name=word == b"sn",
+            is_away=is_away,
+            before=self._before(word),
         )
-        if word in _APART:
+        if self._group.is_apart:
             self._text.append(" ")
+
+    def _before(self, word: bytes) -> int | None:
+        """Of the outermost code of a field, which may begin with a word, how many pieces stand before it."""
+        is_code = word == _CODE and self._group.before is None
+        return len(self._text) if is_code else self._group.before
 
     def _sign(self, sign: bytes) -> None:
         if sign == b"*":
             self._group = replace(self._group, is_passed_over=True)
-        elif sign in b"\r\n":
+        elif sign in b"\r\n" and self._group.before is None:
             self._end()
         elif sign in b"{}\\":
             self._add(sign)
@@ -182,6 +217,8 @@ class _Reader:
         self._group = replace(self._group, is_begun=True)
         count = min(self._skipped, len(text))
         self._skipped -= count
+        if self._group.is_name:
+            self._name += text
         if self._group.is_print:
             self._pieces.append(b" " if self._is_symbol else text[count:])
 
@@ -218,3 +255,8 @@ def passages_of(data: bytes) -> list[str]:
     reader = _Reader()
     reader.read(data)
     return reader.passages
+
+
+def has_descriptions(data: bytes) -> bool:
+    """Whether a text in RTF describes a picture or a shape."""
+    return _DESCRIBED.search(data) is not None
