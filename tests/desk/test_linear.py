@@ -28,6 +28,7 @@ from braildesk.desk.documents.numbers_of_odt import with_odt_numbers
 from braildesk.desk.documents.pages import readable_page
 from braildesk.desk.documents.reading import Missing
 from braildesk.desk.documents.rtf_fields import as_shown
+from braildesk.desk.documents.tree import Node, document
 from braildesk.desk.find import Hit
 from braildesk.desk.kept_lines import overlap
 from braildesk.desk.layout import PageSize
@@ -162,6 +163,17 @@ def test_a_page_is_compared_and_written_in_one_walk(page: str) -> None:
     contents_of(page.encode(), ManuscriptKind.HTML)
     readable_page(page)
     assert time.process_time() - started < SECONDS
+
+
+def test_the_links_of_a_paragraph_are_written_in_one_walk() -> None:
+    def link(word: str) -> Node:
+        return {"t": "Link", "c": [["", [], []], [{"t": "Str", "c": word}], ["a", ""]]}
+
+    links = [link("tide") for _ in range(60_000)]
+    started = time.process_time()
+    found = document({"blocks": [{"t": "Para", "c": links}]})
+    assert time.process_time() - started < SECONDS
+    assert (len(found.losses), len(found.parts)) == (60_000, 1)
 
 
 def test_passages_of_one_word_are_looked_for_in_few_places() -> None:

@@ -427,10 +427,11 @@ class _Reader:
             self._numbers.setdefault(name, number)
 
     def _link(self, content: Sequence[Any], line: _Line) -> None:
-        since = line.length
+        since, count = line.length, len(line.pieces)
         self._inlines(content[1], line)
         target = content[2][0]
-        shown = line.text[since:]
+        # of a line with many links not all is joined at each of them
+        shown = "".join(line.pieces[count:])
         if not target.startswith("#") and shown not in (
             target,
             _without_scheme(target),
@@ -485,7 +486,8 @@ def _passed(
 
 def _around(text: str, start: int, stop: int) -> str:
     """The words around a place of a text, whole words of at most so many characters on each side."""
-    before, after = text[:start], text[stop:]
+    before = text[max(start - _AROUND - 1, 0) : start]
+    after = text[stop : stop + _AROUND + 1]
     if len(before) > _AROUND:
         before = before[-_AROUND:].partition(" ")[2]
     if len(after) > _AROUND:
