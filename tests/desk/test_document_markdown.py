@@ -311,3 +311,23 @@ def test_a_line_like_a_note_with_which_a_text_goes_on_uses_the_note() -> None:
     found = read("One[^a]\n[^a]: three\n\n[^a]: far\n")
     assert found.texts == ["One[1] [1]: three", "[1: far]"]
     assert not lost(found)
+
+
+@pytest.mark.parametrize(
+    "text, texts, missing",
+    [
+        # a heading is the key of links too, however it is written
+        ("# The *sea* {.a}\n\nSee [it][the *sea*].", ["The sea", "See it."], []),
+        ("Sea\n---\n\nSee [it][sea], [so][no].", ["Sea", "See it, [so][no]."], []),
+        # numbers and words of a front are print as they stand there, and switches are none
+        ("---\ntitle: 7.10\nauthor: No\n---\n\nA", ["7.10", "No", "A"], []),
+        ("---\nprice: 12.50\nTOC: yes\nlang: no\n---\n\nA", ["A"], ["12.50"]),
+        ("A `b\\'c` or `d\\_e` `` f\\`g ``\n\n    h\\'i", None, []),
+    ],
+)
+def test_words_of_markdown_that_are_there_are_not_missing(
+    text: str, texts: list[str] | None, missing: list[str]
+) -> None:
+    found = read(text)
+    assert found.texts == texts or texts is None
+    assert [each.words for each in found.missing] == missing

@@ -27,7 +27,7 @@ from braildesk.desk.documents.kinds import (
     WhyNot,
     repacked,
 )
-from braildesk.desk.documents.markdown_front import with_one_front
+from braildesk.desk.documents.markdown_front import with_one_front, with_plain_values
 from braildesk.desk.documents.markdown_notes import (
     repeated,
     with_marks,
@@ -191,7 +191,7 @@ def _readable(data: bytes, kind: ManuscriptKind) -> tuple[bytes, list[Loss]]:
         return pages.readable_page(data.decode()).encode(), []
     if kind is ManuscriptKind.MARKDOWN:
         text, unmarked = with_marks(data.decode())
-        text = with_one_front(text)
+        text = with_plain_values(with_one_front(text))
         check_tables(text)
         return text.encode(), unmarked
     return data, []

@@ -17,6 +17,34 @@ _BEGINNING = re.compile(rf"(?:[ \t>]*|.*>[ \t]*){_HYPHENS}[ \t]*")
 _PLAIN = re.compile(rf"(?: {{0,3}}>)* {{0,3}}{_HYPHENS}[ \t]*")
 #: A line that begins lines that are shown as they are written, or ends them if it has no other signs.
 _FENCE = re.compile(rf"({AHEAD})(`{{3,}}+(?=[^`]*$)|~{{3,}})(.*)")
+#: A name with a number, and one with a switch; pandoc drops zeros of the one, and takes print for the other.
+_NUMBER = re.compile(r"([\w-]+:[ \t]+)([-+]?\.?[0-9][\w.+-]*)([ \t]*)")
+_SWITCH = re.compile(
+    r"([\w-]+:[ \t]+)(y|yes|on|true|n|no|off|false)([ \t]*)", re.IGNORECASE
+)
+_ON = ("y", "yes", "on", "true")
+#: The names of what is print.
+_PRINT = re.compile("(title|subtitle|author|date|abstract):")
+
+
+def with_plain_values(text: str) -> str:
+    """A text whose front says numbers, and words that are print, as they are written there."""
+    lines = text.split("\n")
+    for place, line in enumerate(lines[: front_of(lines)]):
+        found = _NUMBER.fullmatch(line)
+        if found is None and _PRINT.match(line):
+            found = _SWITCH.fullmatch(line)
+        if found:
+            lines[place] = found.expand(r'\1"\2"\3')
+    return "\n".join(lines)
+
+
+def with_usual_switch(line: str) -> str:
+    """A line of a front in which a switch that is no print has the usual word."""
+    found = None if _PRINT.match(line) else _SWITCH.fullmatch(line)
+    if found is None:
+        return line
+    return found[1] + ("true" if found[2].lower() in _ON else "false")
 
 
 def with_one_front(text: str) -> str:
@@ -27,7 +55,7 @@ def with_one_front(text: str) -> str:
     lines = text.split("\n")
     ended = _ended(lines)
     fence = ""
-    for place in range(_front(lines), len(lines) - 1):
+    for place in range(front_of(lines), len(lines) - 1):
         line = lines[place]
         fenced = _FENCE.match(line)
         if fenced and not fence and place in ended:
@@ -64,7 +92,7 @@ def _is_end(fenced: re.Match[str]) -> bool:
     return not fenced[1].strip(" \t>") and not fenced[3].strip()
 
 
-def _front(lines: Sequence[str]) -> int:
+def front_of(lines: Sequence[str]) -> int:
     """How many lines the front of a text has, with the blank ones before it and the one that ends it."""
     start = next((n for n, line in enumerate(lines) if line.strip()), 0)
     if lines[start].rstrip() != _HYPHENS:

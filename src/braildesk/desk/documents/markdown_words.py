@@ -5,11 +5,13 @@ block. Only keys and the numbers of items don't, and signs may part a word or ma
 """
 
 import re
-from collections.abc import Iterable, Iterator, Mapping
+from collections.abc import Iterable, Iterator, Mapping, Sequence
 from html import unescape
+from itertools import pairwise
 from typing import Any
 
 from braildesk.desk.documents.contents import missing, words_of
+from braildesk.desk.documents.markdown_front import front_of, with_usual_switch
 from braildesk.desk.documents.reading import Missing
 from braildesk.desk.documents.tree import Node
 
@@ -34,6 +36,8 @@ _ESCAPE = re.compile(r"\\([!-)+-/:-@\[\]_{|}])|\\[*~^`]?")
 _PARTING = re.compile(r"[*~^`]+")
 _EDGES = re.compile(r"(?<!\w)_++|(?<!_)_++(?!\w)")
 _ID = re.compile(r"#([^\s{}]+)")
+#: What stands below a heading.
+_UNDERLINE = re.compile(r"[ \t>]*(?:=+|-+)[ \t]*")
 _SEAM = "\ue0f2"
 #: Nodes whose words may be parts of words; and what is written of elements of HTML that are nodes.
 _WITHIN = frozenset("Cite Code Emph Strong Strikeout Superscript Subscript".split())
@@ -50,6 +54,7 @@ def lines_of(text: str, tree: list[str]) -> Iterator[str]:
     """The words of each line of a text, parted as the texts of its tree have them."""
     known = {word for each in tree for word in words_of(each)}
     keys = {_folded(found[2]) for found in _LINK_KEY.finditer(text) if found[2]}
+    keys.update(map(_folded, _headings(text.split("\n"))))
     uses = {_folded(found[2]) for found in _USE.finditer(text)}
 
     def without_key(found: re.Match[str]) -> str:
@@ -62,12 +67,28 @@ def lines_of(text: str, tree: list[str]) -> Iterator[str]:
     def without_label(found: re.Match[str]) -> str:
         return " " if found[1] in labels else found[0]
 
-    for line in _LINK_KEY.sub(without_key, text).split("\n"):
+    lines = _LINK_KEY.sub(without_key, text).split("\n")
+    front = front_of(lines)
+    for line in (*map(with_usual_switch, lines[:front]), *lines[front:]):
         line = _LABELLED.sub(without_label, _NUMBERS.sub("", line, count=1))
         line = _NOTE_KEY.sub(" ", unescape(line))
-        line = _ESCAPE.sub(lambda found: found[1] or " ", line)
+        line = _without_escapes(line)
         parts = _PARTING.sub(_SEAM, _plain(line)).split()
         yield " ".join(_whole(each, known) for each in parts)
+
+
+def _headings(lines: Sequence[str]) -> Iterator[str]:
+    """What may be headings, which are keys of links too."""
+    for line, below in pairwise([*lines, ""]):
+        shown = line.strip(" \t>")
+        if shown.startswith("#"):
+            yield shown.partition("{")[0].strip("# \t")
+        elif below.strip(" \t>") and _UNDERLINE.fullmatch(below):
+            yield shown
+
+
+def _without_escapes(text: str) -> str:
+    return _ESCAPE.sub(lambda found: found[1] or " ", text)
 
 
 def _whole(part: str, known: set[str]) -> str:
@@ -128,10 +149,10 @@ class _Walk:
             case "Note" if "of" in node:
                 self._notes.add(node["of"])
             case "Code":
-                yield unescape(content[1])
+                yield _without_escapes(unescape(content[1]))
                 content = content[0]
             case kind if kind in _VERBATIM:
-                content = [content[:-1], unescape(content[-1])]
+                content = [content[:-1], _without_escapes(unescape(content[-1]))]
             case kind if kind in _ELEMENTS:
                 content = [_ELEMENTS[kind], content]
         yield around
