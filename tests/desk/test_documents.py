@@ -1638,10 +1638,12 @@ def test_words_of_doc_that_libreoffice_leaves_out_are_missing(
         "A note",
         "In a box na\u00efve",
     ]
-    # of one that is damaged nothing is known
-    for length in (30, 600, 1_700, 4_000):
-        cut = doc(story, [31, 49, 6])[:length]
-        assert len(read_document(cut, ManuscriptKind.DOC).missing) == 1
+    # of one that is damaged, or older, nothing else is known
+    front = doc(story, [31, 49, 6])
+    older = front.replace(b"\xec\xa5", b"\xdc\xa5", 1)
+    for data in (*(front[:size] for size in (30, 600, 1_700, 4_000)), older):
+        read = read_document(data, ManuscriptKind.DOC)
+        assert (len(read.missing), lost(read, LossKind.UNSEEN)) == (1, [""])
 
 
 @pytest.mark.parametrize(

@@ -42,6 +42,10 @@ _SAID = {
         "1 page of the file can't be read in any encoding, and is left out",
         "{} pages of the file can't be read in any encoding, and are left out",
     ),
+    LossKind.UNSEEN: (
+        "1 document is of a form whose words can't be compared: some may be left out, and dates be new ones",
+        "{} documents are of a form whose words can't be compared: some may be left out, and dates be new ones",
+    ),
     LossKind.ABSENT: (
         "1 page that the order of reading names isn't in the file",
         "{} pages that the order of reading names aren't in the file",

@@ -138,12 +138,12 @@ def _kinds(table: bytes) -> Iterator[tuple[int, int]]:
                     yield its, _WITH_FIELDS
 
 
-def passages_of(data: bytes) -> list[str]:
-    """The paragraphs of a text in DOC; none if it is damaged, or of an older form."""
+def passages_of(data: bytes) -> list[str] | None:
+    """The paragraphs of a text in DOC; None if it is damaged, or of the form before that of 1997."""
     try:
         stories = list(_File(data).stories())
     except DAMAGED:
-        return []
+        return None
     texts = ("".join(_print(story)).translate(_CHARACTERS) for story in stories)
     return [each for text in texts for each in _ENDS.split(text) if each.strip()]
 

@@ -69,20 +69,7 @@ def read_document(
     if kind in _PACKED:
         data = repacked(data)
     if kind in (ManuscriptKind.RTF, ManuscriptKind.DOC):
-        made = pandoc.as_docx(data, kind, name)
-        found = replace(_read_docx(made, reading), kind=kind)
-        # what LibreOffice leaves out is in no part of what it makes
-        own = contents.contents_of(made, ManuscriptKind.DOCX)
-        texts = [*own.passages, *own.edges, *(loss.words for loss in own.losses)]
-        if kind is ManuscriptKind.DOC:
-            passages = doc_text.passages_of(data)
-            texts += doc_text.letters_of(made)
-        else:
-            passages = rtf_words.passages_of(data)
-            if rtf_words.has_descriptions(data):
-                found = replace(found, losses=tuple(map(_described, found.losses)))
-        missing = contents.missing(passages, texts)
-        return replace(found, missing=(*found.missing, *missing))
+        return _by_office(data, kind, reading, name)
     if kind is ManuscriptKind.DOCX:
         return _read_docx(data, reading)
     if kind in (ManuscriptKind.MARKDOWN, ManuscriptKind.HTML):
@@ -92,6 +79,31 @@ def read_document(
     if kind is ManuscriptKind.ODT:
         return _read_odt(data, reading, name)
     return _read(data, kind, contents.contents_of(data, kind), reading)
+
+
+def _by_office(
+    data: bytes, kind: ManuscriptKind, reading: ReadingOptions, name: str
+) -> Manuscript:
+    """A text in RTF or DOC, with the words that LibreOffice leaves out."""
+    made = pandoc.as_docx(data, kind, name)
+    found = replace(_read_docx(made, reading), kind=kind)
+    # what LibreOffice leaves out is in no part of what it makes
+    own = contents.contents_of(made, ManuscriptKind.DOCX)
+    texts = [*own.passages, *own.edges, *(loss.words for loss in own.losses)]
+    losses = found.losses
+    passages: list[str] | None
+    if kind is ManuscriptKind.DOC:
+        passages = doc_text.passages_of(data)
+        texts += doc_text.letters_of(made)
+    else:
+        passages = rtf_words.passages_of(data)
+        if rtf_words.has_descriptions(data):
+            losses = tuple(map(_described, losses))
+    if passages is None:
+        first = next((part.text[:_SHOWN] for part in found.parts), "")
+        losses = (*losses, Loss(LossKind.UNSEEN, "", first))
+    missing = contents.missing(passages or [], texts)
+    return replace(found, losses=losses, missing=(*found.missing, *missing))
 
 
 def _described(loss: Loss) -> Loss:

@@ -53,6 +53,7 @@ class LossKind(Enum):
     ASIDE = auto()
     REPEATED = auto()
     UNREAD = auto()
+    UNSEEN = auto()
     ABSENT = auto()
     EMBEDDED = auto()
 
