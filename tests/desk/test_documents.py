@@ -1641,7 +1641,10 @@ def test_words_of_doc_that_libreoffice_leaves_out_are_missing(
     # of one that is damaged, or older, nothing else is known
     front = doc(story, [31, 49, 6])
     older = front.replace(b"\xec\xa5", b"\xdc\xa5", 1)
-    for data in (*(front[:size] for size in (30, 600, 1_700, 4_000)), older):
+    # its sectors name each other for ever
+    round_ = front[:68] + bytes(8) + b"\xff" * (436 + 508) + bytes(4) + front[1_024:]
+    cut = (front[:size] for size in (30, 600, 1_700, 4_000))
+    for data in (*cut, older, round_):
         read = read_document(data, ManuscriptKind.DOC)
         assert (len(read.missing), lost(read, LossKind.UNSEEN)) == (1, [""])
 

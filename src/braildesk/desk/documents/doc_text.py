@@ -12,8 +12,9 @@ from xml.etree.ElementTree import Element
 
 from braildesk.desk.documents.field_codes import formula_of_code
 from braildesk.desk.documents.kinds import part_of, root_of, unpacked
-from braildesk.desk.documents.streams import DAMAGED, Stream, streams_of
+from braildesk.desk.documents.streams import DAMAGED, streams_of
 
+_STREAMS = ("WordDocument", "0Table", "1Table")
 #: What a text of Word since 1997 begins with, and what says which of two streams has its tables.
 _MAGIC, _IS_SECOND = 0xA5EC, 0x0200
 #: Which of the tables say where the text is, and where the fields of each of its stories are.
@@ -45,12 +46,12 @@ class _File:
     """A text in DOC: where its parts are; raises what `DAMAGED` has."""
 
     def __init__(self, data: bytes) -> None:
-        streams = streams_of(data)
-        self._front = streams["WordDocument"].of(data)
+        streams = streams_of(data, _STREAMS)
+        self._front = streams[_STREAMS[0]].of(data)
         magic, flags = struct.unpack_from("<H8xH", self._front)
         if magic != _MAGIC:
             raise ValueError(magic)
-        self.tables: Stream = streams["1Table" if flags & _IS_SECOND else "0Table"]
+        self.tables = streams[_STREAMS[1 + bool(flags & _IS_SECOND)]]
         self._table = self.tables.of(data)
         (count,) = struct.unpack_from("<H", self._front, 32)
         self._lengths = 34 + 2 * count
@@ -151,28 +152,28 @@ def passages_of(data: bytes) -> list[str] | None:
 def _print(story: str) -> Iterator[str]:
     """What is seen of a story: all but the codes of its fields, and of some their results."""
     #: The codes of the fields that are open, and of how many of them nothing is seen here.
-    codes: list[str] = []
+    codes: list[list[str]] = []
     unseen: list[bool] = []
     hidden = 0
     for piece in _SIGNS.split(story):
         match piece:
             case "\x13":
-                codes.append("")
+                codes.append([])
                 unseen.append(True)
                 hidden += 1
             case "\x14" if codes:
                 hidden -= unseen[-1]
-                unseen[-1] = _UNSEEN.match(codes[-1]) is not None
+                unseen[-1] = _UNSEEN.match("".join(codes[-1])) is not None
                 hidden += unseen[-1]
             case "\x15" if codes:
-                code, is_unseen = codes.pop(), unseen.pop()
+                code, is_unseen = "".join(codes.pop()), unseen.pop()
                 hidden -= is_unseen
                 # it may have no result
                 yield formula_of_code(code) if is_unseen and not hidden else ""
             case _ if not hidden:
                 yield piece
             case _:
-                codes[-1] += piece
+                codes[-1].append(piece)
 
 
 def letters_of(container: bytes) -> list[str]:

@@ -1,7 +1,7 @@
 """The streams of a container of older programs, as a text in DOC is: pieces that stand in any order in it."""
 
 import struct
-from collections.abc import Iterator, Sequence
+from collections.abc import Collection, Iterator, Sequence
 from dataclasses import dataclass
 from itertools import islice
 
@@ -10,6 +10,8 @@ DAMAGED = (struct.error, LookupError, ValueError, OverflowError)
 
 #: Where the front of a container says what its sectors are, and how many of the sectors of their table it names.
 _SECTORS, _FIRST_SECTORS = 30, 109
+#: How long a stream is at least that has sectors of its own, and how long those of others are.
+_LEAST, _SMALL_STEP = 4_096, 64
 #: From here on a number is that of no sector.
 _NONE = 0xFFFF_FFFA
 #: How long an entry of the directory is, where in it the kind and the place are, and the kind of the first.
@@ -33,23 +35,26 @@ class Stream:
         return b"".join(data[front : front + self.step] for front in self.fronts)
 
 
-def streams_of(data: bytes) -> dict[str, Stream]:
-    """The streams of a container by their names; raises what `DAMAGED` has."""
+def streams_of(data: bytes, names: Collection[str]) -> dict[str, Stream]:
+    """Those streams of a container that have some names; raises what `DAMAGED` has."""
     reader = _Reader(data)
     directory = reader.stream(reader.first_of_directory).of(data)
-    found: dict[str, Stream] = {}
-    inner = Stream((), reader.step)
+    found: dict[str, tuple[int, int]] = {}
+    inner = 0
     for front in range(0, len(directory), _ENTRY):
         (length,) = struct.unpack_from("<H", directory, front + 64)
         name = directory[front : front + max(length - 2, 0)].decode("utf-16-le")
         first, size = struct.unpack_from("<II", directory, front + _PLACE)
         if directory[front + _KIND] == _ROOT:
-            inner = reader.stream(first)
-        elif size < reader.least:
-            found[name] = reader.small_stream(first, inner)
-        else:
-            found[name] = reader.stream(first)
-    return found
+            inner = first
+        elif name in names:
+            found[name] = first, size
+    return {
+        name: reader.small_stream(first, reader.stream(inner))
+        if size < _LEAST
+        else reader.stream(first)
+        for name, (first, size) in found.items()
+    }
 
 
 class _Reader:
@@ -60,25 +65,29 @@ class _Reader:
         shift, small_shift = struct.unpack_from("<HH", data, _SECTORS)
         if shift not in (9, 12) or small_shift != 6:
             raise ValueError(shift, small_shift)
-        self.step, self._small_step = 1 << shift, 1 << small_shift
+        self.step = 1 << shift
         (self.first_of_directory,) = struct.unpack_from("<I", data, 48)
-        self.least, first_of_small = struct.unpack_from("<II", data, 56)
+        (first_of_small,) = struct.unpack_from("<I", data, 60)
         # a table may name one sector many times: no more of it is read than there are sectors
         numbers = islice(self._numbers(), -(-len(data) // (self.step * self.step // 4)))
         self._table = [each for number in numbers for each in self._sector(number)]
-        small = self.stream(first_of_small).of(data)
-        self._small_table = struct.unpack(f"<{len(small) // 4}I", small)
+        self._small_table = self.stream(first_of_small).of(data)
 
     def stream(self, first: int) -> Stream:
         """A stream of sectors, from the first one on."""
-        chain = _chain(first, self._table)
-        return Stream([(each + 1) * self.step for each in chain], self.step)
+        fronts: list[int] = []
+        while first < _NONE and len(fronts) < len(self._table):
+            fronts.append((first + 1) * self.step)
+            first = self._table[first]
+        return Stream(fronts, self.step)
 
     def small_stream(self, first: int, inner: Stream) -> Stream:
         """A stream of smaller sectors, which stand in another stream."""
-        chain = _chain(first, self._small_table)
-        fronts = [inner.place(each * self._small_step) for each in chain]
-        return Stream(fronts, self._small_step)
+        fronts: list[int] = []
+        while first < _NONE and len(fronts) < _LEAST // _SMALL_STEP:
+            fronts.append(inner.place(first * _SMALL_STEP))
+            (first,) = struct.unpack_from("<I", self._small_table, 4 * first)
+        return Stream(fronts, _SMALL_STEP)
 
     def _numbers(self) -> Iterator[int]:
         """The sectors in which it stands which sector follows each."""
@@ -86,7 +95,8 @@ class _Reader:
         numbers: Sequence[int] = struct.unpack_from(
             f"<{_FIRST_SECTORS}I", self._data, 76
         )
-        while True:
+        # what names them may go round
+        for _ in range(len(self._data) // self.step + 1):
             yield from (each for each in numbers if each < _NONE)
             if following >= _NONE:
                 return
@@ -95,12 +105,3 @@ class _Reader:
     def _sector(self, number: int) -> tuple[int, ...]:
         count, front = self.step // 4, (number + 1) * self.step
         return struct.unpack_from(f"<{count}I", self._data, front)
-
-
-def _chain(first: int, table: Sequence[int]) -> list[int]:
-    """The sectors that follow each other from one on; no more than there are."""
-    found: list[int] = []
-    while first < _NONE and len(found) <= len(table):
-        found.append(first)
-        first = table[first]
-    return found
