@@ -2217,3 +2217,14 @@ def test_what_is_nested_too_deeply_is_refused_for_that(tmp_path: Path) -> None:
             read()
         assert found.value.why is WhyNot.TOO_DEEP
         assert "nested" in unreadable(found.value)
+
+
+def test_what_a_page_says_that_it_does_not_show_is_typed_and_noted() -> None:
+    page = (
+        "<html><p>One<span hidden> two <b style='display:none'>three</b></span> four<div style='x:y; Display : NONE'>"
+        "<p>five<p>six</div><div hidden><img src=a></div><input type=hidden value=no hidden><p>seven"
+        "<table><tr><td hidden>eight<td>nine</table>"
+    )
+    found = read_document(page.encode(), ManuscriptKind.HTML)
+    assert found.texts == ["One two three four", "five", "six", "seven", "eight; nine"]
+    assert lost(found, LossKind.HIDDEN) == ["two three", "five six", "eight"]

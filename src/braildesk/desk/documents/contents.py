@@ -7,7 +7,14 @@ import re
 import unicodedata
 import zipfile
 from collections import Counter, deque
-from collections.abc import Callable, Collection, Iterable, Iterator, Sequence
+from collections.abc import (
+    Callable,
+    Collection,
+    Iterable,
+    Iterator,
+    Mapping,
+    Sequence,
+)
 from dataclasses import dataclass, field
 from functools import partial
 from itertools import islice
@@ -61,6 +68,12 @@ _TYPES = {
 _IS_NUMBER = re.compile("decimal.*|.*-(alpha|latin|roman|greek)")
 #: Classes that many programs give to lists whose numbers are plain.
 _PLAIN_CLASSES = frozenset("arabic decimal itemized ordered orderedlist simple".split())
+#: Elements that end where another begins in place of them, if nothing else ends them.
+_ENDED_BY: dict[str, tuple[str, ...]] = {
+    **dict.fromkeys(("td", "th"), ("td", "th")),
+    **dict.fromkeys(("dt", "dd"), ("dt", "dd")),
+    **{tag: (tag,) for tag in ("p", "tr", "option")},
+}
 _FOR_PRINT = re.compile(r"\b(all|print)\b", re.IGNORECASE)
 #: In how many places a passage is looked for, of which each word may stand nearly everywhere.
 _MOST_TRIED = 1_000
@@ -147,6 +160,8 @@ class Contents:
     def note_page(self, page: "_Html") -> None:
         """Notes the numbers of a page that is typed which aren't so in print."""
         self.note_numbers(page.numbers)
+        for words in page.hidden:
+            self.lose(LossKind.HIDDEN, words)
         for words in page.restyled:
             self.numbers.append(Loss(LossKind.LIST, words, words))
         self.note_numbers(page.counted)
@@ -646,6 +661,10 @@ class _Html(Tags):
         self._in_list = False
         #: Whether the reading of characters is open, and has something: "", "begun" or "read".
         self._reading = ""
+        #: The first words of each element that isn't shown; and of that which is open, how many are open around it,
+        #: and its first text and piece.
+        self.hidden: list[str] = []
+        self._unshown: tuple[int, int, int] | None = None
         #: The element that leads back from a note, and how many of its name are open in it.
         self._back, self._open = "", 0
 
@@ -764,9 +783,12 @@ class _Html(Tags):
             lists = (each.tag for each in reversed(self._path))
             if next((tag for tag in lists if tag in ("li", "ol", "ul")), "") == "li":
                 self._leave("li")
-        elif tag == "p" and self._path and self._path[-1].tag == "p":
-            self._leave("p")
+        elif self._path and (last := self._path[-1].tag) in _ENDED_BY.get(tag, ()):
+            self._leave(last)
         if tag not in self._VOID:
+            if self._unshown is None and _is_hidden(attributes):
+                text = len(self._texts) - 1
+                self._unshown = len(self._path), text, len(self._texts[text])
             classes = frozenset((attributes.get("class") or "").split())
             self._path.append(PageElement(tag, attributes.get("id") or "", classes))
             self._tags[tag] += 1
@@ -778,6 +800,13 @@ class _Html(Tags):
         while left != tag:
             left = self._path.pop().tag
             self._tags[left] -= 1
+        if self._unshown and len(self._path) <= self._unshown[0]:
+            _, text, piece = self._unshown
+            self._unshown = None
+            its = (self._texts[text][piece:], *self._texts[text + 1 :])
+            joined = " ".join(map("".join, its)).replace(_SEAM, "")
+            if words := plain(joined.replace("\n", " ")):
+                self.hidden.append(words[:_SHOWN])
 
     def _link(self, tag: str, attributes: dict[str, str | None]) -> None:
         if tag == "link" and "stylesheet" in (attributes.get("rel") or "").lower():
@@ -836,6 +865,15 @@ class _Html(Tags):
             self._back, self._open = "", 0
         elif tag in PARTED:
             self._add(" ")
+
+
+def _is_hidden(attributes: Mapping[str, str | None]) -> bool:
+    """Whether an element says itself that it isn't shown."""
+    declared = map(_halves, (attributes.get("style") or "").split(";"))
+    values = {
+        name.strip().lower(): value.strip().lower() for name, _, value in declared
+    }
+    return "hidden" in attributes or values.get("display") == "none"
 
 
 def _first_words(texts: Sequence[Sequence[str]]) -> list[str]:
