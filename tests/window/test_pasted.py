@@ -153,7 +153,7 @@ def test_lines_that_are_dropped_stay_where_they_come_from_and_keep_it_waiting_fo
 TOO_MUCH = (
     "With what was copied this would have {:,} characters, and at most {:,} can be pasted here."
     " Nothing was typed. Save the text as a document, such as .odt or .docx: Ctrl+I imports it, with"
-    " long paragraphs parted at their sentences."
+    " long paragraphs parted."
 )
 
 
