@@ -79,9 +79,14 @@ def find(program: StrPath | None = None) -> str:
     if named:
         if found := _runnable(named):
             return found
-        source = "" if program is not None else ", which BRAILDESK names,"
+        # bin/scribe sets what nobody has set
+        source = (
+            " It is the one that BRAILDESK names, or else the one that belongs beside scribe."
+            if program is None
+            else ""
+        )
         raise NoProgram(
-            f"The program “{named}”{source} isn't there, or may not be run."
+            f"The program “{named}” isn't there, or may not be run.{source}"
         )
     for candidate in (str(_CHECKOUT / "build" / "braildesk"), "braildesk"):
         if found := _runnable(candidate):

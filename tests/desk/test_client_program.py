@@ -69,8 +69,8 @@ def test_a_program_that_is_not_there_is_named(
     with pytest.raises(NoProgram) as caught:
         braildesk.find()
     assert caught.value.sentence == (
-        f"The program “{tmp_path / 'none'}”, which BRAILDESK names, isn't there, or may not be"
-        " run."
+        f"The program “{tmp_path / 'none'}” isn't there, or may not be run. It is the one that"
+        " BRAILDESK names, or else the one that belongs beside scribe."
     )
     with pytest.raises(NoProgram) as caught:
         Session("any", program="./none")

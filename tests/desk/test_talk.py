@@ -636,7 +636,10 @@ def test_a_talk_goes_on_where_the_program_is_not_there_for_another_book(
     talk.type("strike 1")
     program.unlink()
     said = " ".join(talk.type(f"compare {other}"))
-    assert said.endswith("isn't there, or may not be run.")
+    # which bin/scribe sets where nobody has set it
+    assert said.endswith(
+        "that BRAILDESK names, or else the one that belongs beside scribe."
+    )
     assert talk.type("strike 2")[-1] == "The book is at version 9."
     assert talk.end("quit\r").status == 0
 
