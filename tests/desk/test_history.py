@@ -54,6 +54,10 @@ def test_one_paragraph_or_one_proofreader_is_shown_alone(men: Path) -> None:
         "Paragraph 3, correction 1, by bob,",
         "Paragraph 1, correction 1, by bob,",
     ]
+    assert history(men, "--by", "anna", "--width", "80").shown == (
+        "Paragraph 1, correction 2 taken back: … [men] stood on the moon.\n"
+        "Paragraph 1, correction 2, by anna, for “men”: … [women] stood on the moon.\n"
+    )
     assert history(men, "--by", "carl") == Ran(
         0, "", "There is no correction by “carl”. There are some by anna, bob.\n"
     )

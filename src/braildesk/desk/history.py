@@ -69,6 +69,16 @@ def histories(session: Session, paragraphs: Sequence[Paragraph]) -> Iterator[Ste
         yield from reversed(steps(number, now, entries))
 
 
+def corrected_by(found: Sequence[Step], who: str) -> list[Step]:
+    """The corrections of a proofreader, and the entries that took one of them back."""
+    its = {(each.paragraph, each.entry.seq) for each in found if each.entry.who == who}
+    return [
+        each
+        for each in found
+        if each.entry.who == who or (each.paragraph, each.entry.undone) in its
+    ]
+
+
 def steps(paragraph: int, now: str, entries: Sequence[Entry]) -> list[Step]:
     """The entries of a history, by which a print came to be what it is now."""
     print_text = _Print(_first(now, entries))

@@ -3,7 +3,7 @@
 from argparse import Namespace
 
 from braildesk import Session
-from braildesk.desk.history import histories
+from braildesk.desk.history import corrected_by, histories
 from braildesk.desk.ranges import ParagraphRange
 
 from scribe.cli.book_command import BookCommand
@@ -32,7 +32,7 @@ def add_words(parser: Parser) -> None:
         dest="whose",
         metavar="WHO",
         type=words,
-        help="only corrections by this proofreader",
+        help="only corrections by this proofreader, and which were taken back",
     )
     add_width(parser)
 
@@ -42,7 +42,7 @@ def answer(session: Session, arguments: Namespace, console: Console) -> None:
     number, by = arguments.paragraph, arguments.whose
     its = ParagraphRange(number, number).of(session.paragraphs())
     found = list(histories(session, its))
-    wanted = [step for step in found if by is None or step.entry.who == by]
+    wanted = found if by is None else corrected_by(found, by)
     for lines in history_lines(wanted, console.columns):
         console.show(*lines)
     if not wanted:
