@@ -219,6 +219,12 @@ def test_a_blank_at_the_end_or_the_front_of_a_line_is_taken(talk: Prompted) -> N
             "The quotation mark ' is opened and not closed. Nothing was changed.",
         ),
         (
+            "list -ing",
+            "Unrecognized arguments: -ing. A word that begins with a hyphen stands in quotation"
+            " marks, as '-ing'. It is typed as: list [PARAS] [--paragraphs PARAS] [--headings]"
+            " [--width N]",
+        ),
+        (
             "change x",
             "Argument PARA: 'x' is not a number. It is typed as: change PARA OLD NEW [--nth N]"
             " [--by WHO] [--width N]",
@@ -306,6 +312,16 @@ def test_words_are_taken_out(talk: Prompted) -> None:
     talk.type("change 1 ' far'", ": ")
     assert talk.type("''")[0] == "Paragraph 1: The moon is[] away."
     assert talk.type("change 1 ' is' ''")[0] == "Paragraph 1: The moon[] away."
+
+
+def test_words_in_quotation_marks_are_no_options(talk: Prompted) -> None:
+    assert talk.type("change 1 far '-h'")[0] == "Paragraph 1: The moon is [-h] away."
+    assert talk.type('find "-h"')[-1] == "Found “-h” once."
+    assert talk.type(r"change 1 \-h '--'")[0] == "Paragraph 1: The moon is [--] away."
+    shown = talk.type("change-all '--' far --dry-run")
+    assert "After: The moon is [far] away." in shown
+    assert talk.type("mark 1 '--' '-why?'")[0] == "Mark 2, open, on “--”: -why?"
+    assert "The book is at version 10." in talk.end("quit\r").shown
 
 
 def test_words_of_a_line_that_stand_more_than_once_are_asked_about(

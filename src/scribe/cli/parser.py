@@ -116,6 +116,12 @@ class Parser(argparse.ArgumentParser):
             return value
         return super()._get_values(action, arg_strings)
 
+    def _get_value(self, action: argparse.Action, arg_string: str) -> Any:
+        if isinstance(arg_string, typed.QuotedHyphen):
+            # which argparse didn't take for an option
+            arg_string = arg_string.word
+        return super()._get_value(action, arg_string)
+
     def add_version(self) -> None:
         """Adds the option that shows the version."""
         self.add_argument(

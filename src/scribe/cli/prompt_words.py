@@ -32,6 +32,7 @@ _OWN = {
 # the name, the options in brackets, and the words
 _USAGE = re.compile(r"usage: (\S+) ?((?:\[-[^]]*\] ?)*)(.*)")
 _IN_MARKS = "Put words with blanks between them in quotation marks, as in 'far away'."
+_WITH_HYPHEN = "A word that begins with a hyphen stands in quotation marks, as '-ing'."
 
 
 def names() -> list[str]:
@@ -46,7 +47,7 @@ def overview() -> list[str]:
     looking = [each.name for each in others if not issubclass(each, Command)]
     return [
         f"These commands are those of the shell, without the file: {', '.join(AT_PROMPT)}. Words"
-        f" that a line lacks are asked for. {_IN_MARKS}",
+        f" that a line lacks are asked for. {_IN_MARKS} {_WITH_HYPHEN}",
         "These are requests, which count places and cells from 0, while all that is said in words"
         f" counts from 1: {', '.join(looking)} show something, and {', '.join(changing)} change"
         " the book.",
@@ -96,8 +97,10 @@ def _say_refused(talk: Conversation, parser: Parser, refused: WordsRefused) -> N
 def _why_refused(refused: WordsRefused) -> str:
     """Why the words of a line aren't taken."""
     _, is_over, words = refused.sentence.partition("Unrecognized arguments: ")
-    if not is_over or words.startswith("-"):
+    if not is_over:
         return refused.sentence
+    if words.startswith("-"):
+        return f"{refused.sentence} {_WITH_HYPHEN}"
     return f"The line has too many words: “{words.removesuffix('.')}”. {_IN_MARKS}"
 
 

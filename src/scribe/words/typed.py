@@ -3,7 +3,7 @@
 import re
 from collections.abc import Iterator
 from pathlib import Path
-from typing import TYPE_CHECKING
+from typing import TYPE_CHECKING, Self
 
 from braildesk.text.characters import control_refused
 
@@ -25,6 +25,18 @@ _DIGITS = 16
 
 class InvalidInput(ValueError):
     """What was typed isn't what was asked for; the end of a sentence says why."""
+
+
+class QuotedHyphen(str):
+    """A word that begins with a hyphen, as it stood in quotation marks: it is no option."""
+
+    #: The word without the marks.
+    word: str
+
+    def __new__(cls, word: str) -> Self:
+        made = super().__new__(cls, f"'{word}'")
+        made.word = word
+        return made
 
 
 def number(word: str) -> int:
@@ -105,7 +117,8 @@ def words_of(line: str) -> list[str]:
     """The words of a line as a shell parts them, but that an apostrophe within a word is one.
 
     A word that begins with a quotation mark goes on to the next one. A backslash takes the next
-    character as it is, but not between single marks.
+    character as it is, but not between single marks. A hyphen at the front of what stands between
+    marks, or after a backslash, makes a word a ``QuotedHyphen``.
     """
     found: list[str] = []
     place = 0
@@ -116,9 +129,9 @@ def words_of(line: str) -> list[str]:
             raise InvalidInput(
                 f"The quotation mark {bare[0]} is opened and not closed."
             )
-        found.append(
-            _ESCAPED.sub(r"\1", double or bare or "") if single is None else single
-        )
+        word = _ESCAPED.sub(r"\1", double or bare or "") if single is None else single
+        is_bare = bare is not None and bare[0] == "-"
+        found.append(QuotedHyphen(word) if word[:1] == "-" and not is_bare else word)
     return found
 
 
