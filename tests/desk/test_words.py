@@ -194,6 +194,16 @@ def test_two_hyphens_are_words_at_a_prompt(book: Path) -> None:
     assert "Argument on|off: '--' is neither on nor off." in ran.said.splitlines()
 
 
+def test_a_text_that_is_taken_for_an_option_is_said_to_come_after_two_hyphens(
+    tmp_path: Path,
+) -> None:
+    said = "A word that begins with a hyphen, and is no option, comes after --."
+    ran = scribe("change", "m", "1", "-ing", "ed", folder=tmp_path)
+    assert (ran.status, ran.said.splitlines()[1]) == (1, said)
+    for words in (["change", "m", "--nth", "2"], ["find", "m", "--", "--"], ["-V"]):
+        assert said not in scribe(*words, folder=tmp_path).said
+
+
 def test_a_word_that_is_nearly_a_command_is_guessed(tmp_path: Path) -> None:
     ran = scribe("unod", "m", "1", folder=tmp_path)
     assert ran.status == 1

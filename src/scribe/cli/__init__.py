@@ -12,6 +12,7 @@ from scribe.cli.parser import (
     TextAsked,
     WordsRefused,
     as_asked,
+    taken_for_options,
     unknown_command,
     width_asked,
 )
@@ -63,7 +64,8 @@ def run_words(words: Sequence[str], console: Console) -> Status:
         console.show(*asked.text.rstrip("\n").split("\n"))
         return Status.DONE
     except WordsRefused as refused:
-        console.say(refused.sentence, *refused.usage.split("\n"))
+        also = taken_for_options(words, refused)
+        console.say(refused.sentence, *also, *refused.usage.split("\n"))
         return Status.WORDS_REFUSED
     except Stop as stop:
         console.say(*stop.lines, *lost_besides(stop))

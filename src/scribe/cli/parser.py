@@ -1,8 +1,10 @@
 """The words of the command line: a parser that speaks in sentences, and what its words are."""
 
 import argparse
+import re
 from collections.abc import Callable, Sequence
 from dataclasses import dataclass, replace
+from itertools import takewhile
 from pathlib import Path
 from typing import TYPE_CHECKING, Any, NoReturn, TypeVar, cast
 
@@ -26,6 +28,7 @@ if TYPE_CHECKING:
 # The object on which a command calls add_parser.
 Subparsers = Any
 Value = TypeVar("Value")
+_ARE_LACKING = re.compile("The following arguments are required: (?!COMMAND)")
 
 
 class WordsRefused(Exception):
@@ -278,6 +281,16 @@ def unknown_command(word: str, names: Sequence[str]) -> str:
 
     said = hint(word, names, AT_SHELL)
     return f"There is no command {word}.{said} The commands are {', '.join(names)}."
+
+
+def taken_for_options(words: Sequence[str], refused: WordsRefused) -> list[str]:
+    """What is said beside that words are lacking, where some were taken for options that aren't there."""
+    options = re.findall(r"--?[a-z-]+", refused.usage)
+    before = takewhile(lambda word: word != "--", words)
+    given = {each.partition("=")[0] for each in before if each[:1] == "-" != each}
+    if not _ARE_LACKING.match(refused.sentence) or given.issubset(options):
+        return []
+    return ["A word that begins with a hyphen, and is no option, comes after --."]
 
 
 def readable(word: str) -> Path:
