@@ -6,6 +6,7 @@ hands over, as for ``<(command)`` and ``/dev/stdin``, is the person's own, and i
 """
 
 import errno
+import fcntl
 import os
 import re
 import stat
@@ -14,8 +15,8 @@ from typing import BinaryIO, Self
 
 StrPath = str | PathLike[str]
 
-#: The names of what this process has open already.
-_HANDED_OVER = re.compile(r"/dev/(stdin|fd/[0-9]+)|/proc/self/fd/[0-9]+")
+#: The names by which a process is given what it has open itself.
+_OPEN = re.compile(r"/dev/stdin|/(?:dev|proc/self)/fd/([0-9]{1,9})")
 #: Opened so that a pipe isn't waited for, and no terminal becomes the one of this process.
 _READ = os.O_RDONLY | os.O_NONBLOCK | os.O_NOCTTY | os.O_CLOEXEC
 _KINDS = (
@@ -66,14 +67,42 @@ def is_same_file(path: StrPath, other: StrPath) -> bool:
 
 
 def is_handed_over(path: StrPath) -> bool:
-    """Whether a name means what this process has open already, and something else to another."""
-    return _HANDED_OVER.fullmatch(fspath(path)) is not None
+    """Whether a name means what this process had open as it began, and something else to another.
+
+    A pipe to which it writes isn't read.
+    """
+    descriptor = _descriptor(path)
+    if descriptor is None or not _is_of_another(descriptor):
+        return False
+    way = fcntl.fcntl(descriptor, fcntl.F_GETFL) & os.O_ACCMODE
+    is_pipe = stat.S_ISFIFO(os.fstat(descriptor).st_mode)
+    return not (is_pipe and way == os.O_WRONLY)
+
+
+def _descriptor(path: StrPath) -> int | None:
+    """The descriptor that a name means, if it is the name of one."""
+    found = _OPEN.fullmatch(fspath(path))
+    return None if found is None else int(found[1] or 0)
+
+
+def _is_of_another(descriptor: int) -> bool:
+    """Whether a descriptor was there as this process began: what it opens itself it hands to no other."""
+    try:
+        return os.get_inheritable(descriptor)
+    except OSError:
+        # nothing is open by that number
+        return False
 
 
 def open_file(path: StrPath) -> BinaryIO:
     """A file, open for reading; ``NoFile`` if it is none."""
     if "\0" in fspath(path):
         raise NoFile("no path has the character U+0000")
+    number = _descriptor(path)
+    if number is not None and not _is_of_another(number):
+        # what this process has open there is nothing that somebody knows of
+        missing = errno.ENOENT
+        raise FileNotFoundError(missing, os.strerror(missing), fspath(path))
     _judge(os.stat(path).st_mode, path)
     descriptor = os.open(path, _READ)
     try:

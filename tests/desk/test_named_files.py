@@ -154,6 +154,7 @@ def test_a_socket_is_refused(tmp_path: Path, monkeypatch: pytest.MonkeyPatch) ->
 
 def test_a_terminal_is_refused_also_by_the_name_of_what_is_handed_over() -> None:
     keys, terminal = os.openpty()
+    os.set_inheritable(terminal, True)
     try:
         with pytest.raises(NoFile, match="it is a terminal and no file"):
             read_file(f"/dev/fd/{terminal}", 9)
@@ -216,6 +217,7 @@ def test_a_link_to_what_is_handed_over_is_no_way_to_it(tmp_path: Path) -> None:
     link.symlink_to(f"/proc/self/fd/{reader}")
     with pytest.raises(NoFile, match=PIPE):
         read_file(link, 9)
+    os.set_inheritable(reader, True)
     os.write(writer, b"moon")
     os.close(writer)
     assert read_file(f"/dev/fd/{reader}", 4) == b"moon"
@@ -341,6 +343,24 @@ def alarm() -> Iterator[None]:
     yield
     signal.alarm(0)
     signal.signal(signal.SIGALRM, before)
+
+
+@pytest.mark.usefixtures("alarm")
+@pytest.mark.usefixtures("alarm")
+def test_only_what_was_handed_over_is_read_by_its_number(tmp_path: Path) -> None:
+    reader, writer = os.pipe()
+    own = os.open(tmp_path, os.O_RDONLY)
+    for path in (f"/dev/fd/{reader}", f"/proc/self/fd/{own}", f"/dev/fd/{10**30}"):
+        with pytest.raises(FileNotFoundError):
+            read_file(path, 9)
+    # only what reads it could write to it
+    os.set_inheritable(writer, True)
+    with pytest.raises(NoFile, match=PIPE):
+        read_file(f"/dev/fd/{writer}", 9)
+    for each in (reader, writer, own):
+        os.close(each)
+    with pytest.raises(FileNotFoundError):
+        read_file(f"/dev/fd/{own}", 9)
 
 
 @pytest.mark.usefixtures("alarm")
