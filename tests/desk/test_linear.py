@@ -232,6 +232,16 @@ def test_paragraphs_that_are_the_same_at_both_ends_are_compared_in_one_walk() ->
     book = enumerate([*alike, "is a", *alike])
     found = differences([*book], [*alike, "is b", *alike])
     assert [*found] == [OtherWords(7_000, 3, "a", "b")]
+    # where both ends differ too, and what stands between them
+    names = ["moon", "sun", *["moon"] * 18]
+    its = [f"{n} {names[n % 20]}" if n % 2 else "* * *" for n in range(20_000)]
+    found = differences([*enumerate(its)], [each.replace("sun", "sea") for each in its])
+    assert [
+        (each.words, each.others) for each in found if isinstance(each, OtherWords)
+    ] == [("sun", "sea")] * 1_000
+    book = enumerate(["is a", *alike[:2_000], "is a"])
+    found = differences([*book], ["is b", *alike[:2_000], "is b"])
+    assert [*found] == [OtherWords(n, 3, "a", "b") for n in (0, 2_001)]
     assert time.process_time() - started < SECONDS
 
 

@@ -19,6 +19,8 @@ from braildesk.text.sequences import composed
 _IN_A_ROW = 4
 #: How many pairs of words are looked at between two such places.
 _MOST_PAIRS = 4_000_000
+#: How many pairs of equal paragraphs are looked at, and in how many paragraphs of each where there are more.
+_MOST_EQUAL, _PIECE = 1_000_000, 1_000
 
 
 @dataclass(frozen=True)
@@ -106,17 +108,43 @@ def _blocks(
 ) -> Iterator[tuple[str, int, int, int, int]]:
     """The stretches of paragraphs that are the same, and those that aren't, as of SequenceMatcher.
 
-    It takes the square of the time where many are equal, so that it isn't asked of both ends.
+    It takes the square of the time where many are equal, so that it isn't asked of both ends, and of
+    parts where what stands between these has many.
     """
     front = _alike(some, others)
     end = _alike(some[front:][::-1], others[front:][::-1])
     stop, last = len(some) - end, len(others) - end
     yield "equal", 0, front, 0, front
-    inner = SequenceMatcher(None, some[front:stop], others[front:last], autojunk=False)
-    for kind, *places in inner.get_opcodes():
-        start, after, first, then = (front + place for place in places)
-        yield kind, start, after, first, then
+    here = there = front
+    for place, other in _parts(some[front:stop], others[front:last]):
+        ours, theirs = some[here : front + place], others[there : front + other]
+        inner = SequenceMatcher(None, ours, theirs, autojunk=False)
+        for kind, start, after, first, then in inner.get_opcodes():
+            yield kind, here + start, here + after, there + first, there + then
+        here, there = front + place, front + other
     yield "equal", stop, len(some), last, len(others)
+
+
+def _parts(some: Sequence[str], others: Sequence[str]) -> Iterator[tuple[int, int]]:
+    """Where the parts of two texts end that are compared by themselves: the whole, if few paragraphs are equal.
+
+    Else they are parted at paragraphs that stand once in each, and what has many still at even steps.
+    """
+    here = there = 0
+    end = len(some), len(others)
+    anchors = _anchors(some, others, 1) if _has_many(some, others) else []
+    for place, other in [*anchors, end]:
+        if _has_many(some[here:place], others[there:other]):
+            for step in range(_PIECE, max(place - here, other - there), _PIECE):
+                yield min(here + step, place), min(there + step, other)
+        yield place, other
+        here, there = place, other
+
+
+def _has_many(some: Sequence[str], others: Sequence[str]) -> bool:
+    """Whether two texts have many pairs of equal paragraphs."""
+    counts = Counter(others)
+    return sum(counts[each] for each in some) > _MOST_EQUAL
 
 
 def _alike(some: Sequence[str], others: Sequence[str]) -> int:
@@ -186,7 +214,8 @@ def _unequal(
     Words that stand in the same order, and so just once in each, part long texts into short ones.
     """
     here = there = 0
-    for place, other in [*_anchors(some, others), (len(some), len(others))]:
+    anchors = _anchors(some, others, _IN_A_ROW)
+    for place, other in [*anchors, (len(some), len(others))]:
         stretch = (here, place, there, other)
         if (place - here) * (other - there) > _MOST_PAIRS:
             # nothing of the one is found in the other
@@ -214,10 +243,12 @@ def _unequal_in(
             yield start + front, start + end, first + other, first + after
 
 
-def _anchors(some: Sequence[str], others: Sequence[str]) -> list[tuple[int, int]]:
-    """Places of words, four in a row, that stand once in each text, in ascending order in both."""
-    there = _once(others)
-    pairs = [(place, there[row]) for row, place in _once(some).items() if row in there]
+def _anchors(
+    some: Sequence[str], others: Sequence[str], count: int
+) -> list[tuple[int, int]]:
+    """Places of words, so many in a row, that stand once in each text, in ascending order in both."""
+    ours, there = _once(some, count), _once(others, count)
+    pairs = [(place, there[row]) for row, place in ours.items() if row in there]
     # the longest chain in which the second places ascend too
     tops: list[int] = []
     ends: list[int] = []
@@ -235,9 +266,9 @@ def _anchors(some: Sequence[str], others: Sequence[str]) -> list[tuple[int, int]
     return found[::-1]
 
 
-def _once(words: Sequence[str]) -> dict[tuple[str, ...], int]:
-    """The rows of four words that stand once in a text, in their order, with their places."""
-    rows = list(zip(*(words[place:] for place in range(_IN_A_ROW))))
+def _once(words: Sequence[str], count: int) -> dict[tuple[str, ...], int]:
+    """The rows of so many words that stand once in a text, in their order, with their places."""
+    rows = list(zip(*(words[place:] for place in range(count))))
     counts = Counter(rows)
     return {row: place for place, row in enumerate(rows) if counts[row] == 1}
 
