@@ -1,7 +1,7 @@
 """Another program run with no more time and memory than it needs, which ends with its starter.
 
-What others made is given to programs that others wrote. This file is run as a script, in a process
-of its own: it has the system set the limits, and becomes that program.
+What others made is given to programs that others wrote. The text of this module is run as a script,
+in a process of its own: it has the system set the limits, and becomes that program.
 """
 
 import ctypes
@@ -11,7 +11,7 @@ import signal
 import sys
 from collections.abc import Sequence
 from dataclasses import dataclass
-from typing import Final
+from typing import Any, Final
 
 _PR_SET_PDEATHSIG: Final = 1
 
@@ -35,7 +35,10 @@ def confined(words: Sequence[str], limits: Limits) -> list[str]:
     """
     most = (limits.memory, limits.seconds, limits.written)
     given = ["-" if each is None else str(each) for each in most]
-    return [sys.executable, "-I", "-S", __file__, str(os.getpid()), *given, *words]
+    # not the path, at which another text may stand by now, or none
+    loader: Any = sys.modules[__name__].__loader__
+    script = ["-c", loader.get_source(__name__), str(os.getpid())]
+    return [sys.executable, "-I", "-S", *script, *given, *words]
 
 
 def main() -> None:

@@ -64,8 +64,12 @@ def test_the_screen_saves_a_book_that_is_gone_from_its_path(
 def test_all_that_can_be_asked_at_a_prompt_is_answered(
     change: Callable[[Path], None], moon: Path, modules: Path
 ) -> None:
+    text = "# The tides\n\nTwice a day the sea comes up.\n"
+    moon.with_name("tides.md").write_text(text, encoding="utf-8")
     talk = Prompted("talk", str(moon), folder=moon.parent, PYTHONPATH=str(modules))
     change(modules)
+    # the modules by which other programs run are as they were too
+    assert "1 paragraph is in the book alone." in talk.type("compare tides.md")
     assert talk.type("heading 1")[-1] == "The book is at version 8."
     assert talk.type("heading 9") == [
         "The book has no paragraph 9: it has the paragraphs 1 to 3. Nothing was changed."
