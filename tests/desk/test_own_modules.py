@@ -14,7 +14,7 @@ from scribe.cli import endings
 from scribe.cli.own_modules import hold_modules
 from prompted import Prompted
 from terminal import Open
-from tool import ROOT, WAIT_SECONDS, environment
+from tool import ROOT, WAIT_SECONDS, at_end, at_terminal, environment
 
 
 @pytest.fixture
@@ -76,6 +76,26 @@ def test_all_that_can_be_asked_at_a_prompt_is_answered(
     ]
     assert talk.type("find far")[-1] == "Found “far” once."
     assert talk.end("quit\r").status == 0
+
+
+@pytest.mark.parametrize("change", [install_anew, take_away])
+def test_what_was_changed_while_somebody_was_asked_is_saved(
+    change: Callable[[Path], None], moon: Path, modules: Path
+) -> None:
+    words = ["-m", "scribe", "change-all", str(moon), "a", "o", "--ask"]
+    settings = environment(PYTHONPATH=str(modules))
+    child = at_terminal(sys.executable, *words, settings=settings)
+    for answer in ("yes\r", "yes\r"):
+        child.expect("\n: ")
+        child.send(answer)
+    child.expect("\n: ")
+    change(modules)
+    moon.unlink()
+    child.send("yes\r")
+    assert at_end(child) == 3
+    saved = moon.with_name("moon.braildesk-saved-1")
+    with Session(saved) as session:
+        assert session.print_of(1) == "The moon is for owoy."
 
 
 @pytest.mark.parametrize("change", [install_anew, take_away])

@@ -17,6 +17,7 @@ from braildesk.desk.change_all import (
 )
 
 from scribe.cli.book_command import BookCommand
+from scribe.cli.own_modules import hold_modules
 from scribe.cli.opened_book import said_where_stopped
 from scribe.cli.parser import Parser, add_ranges, add_width, argument
 from scribe.prompt.conversation import Ended
@@ -139,6 +140,8 @@ def _choice(arguments: Namespace, found: list[Proposal], console: Console) -> Ch
         return lambda _: True
     ask_person = getattr(arguments, "ask_person", None)
     ask = partial(_asked, console)
+    if ask_person is None and are_typed():
+        hold_modules()
     if ask_person is not None:
         ask = partial(_asked_at_prompt, ask_person)
     return Asking(console.show, ask, len(found), console.columns).is_wanted
