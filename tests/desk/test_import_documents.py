@@ -463,7 +463,13 @@ def test_places_of_a_text_are_those_of_its_file_after_characters_were_replaced()
         ("a.md", b"a", "--lines", "a.md is Markdown, which has paragraphs of its own:"),
         ("a.txt", b"a", "--volumes 1", "a.txt is a text, without headings and notes:"),
         ("a.txt", b"a", "--notes end", "a.txt is a text, without headings and notes:"),
-        ("a.txt", b"a", "--format docx", "a.txt is damaged: it begins as a document"),
+        (
+            "a.txt",
+            b"a",
+            "--format docx",
+            "a.txt isn't of the kind that --format names.",
+        ),
+        ("a.epub", b"PK\x03\x04 none", "--format epub", "a.epub is damaged: it begins"),
         ("a.md", b"a\xff", "", "a.md isn't UTF-8: line 1, column 2 has the byte 0xff."),
     ],
 )

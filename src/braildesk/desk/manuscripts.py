@@ -7,7 +7,14 @@ from pathlib import Path
 from typing import TYPE_CHECKING
 
 from braildesk import CannotOpen, Session, Style, Why
-from braildesk.desk.documents.kinds import ManuscriptKind, is_container, kind_of
+from braildesk.desk.documents.kinds import (
+    ManuscriptKind,
+    NoDocument,
+    WhyNot,
+    is_container,
+    is_of_kind,
+    kind_of,
+)
 from braildesk.desk.documents.options import ReadingOptions
 from braildesk.desk.manuscript import (
     DocumentPassage,
@@ -87,7 +94,12 @@ def taken(data: bytes, by_lines: bool, how: How, name: str) -> Taken:
     # imported here, since a text needs nothing of what reads documents
     from braildesk.desk.documents.document import read_document
 
-    document = read_document(data, kind, how.reading, name)
+    try:
+        document = read_document(data, kind, how.reading, name)
+    except NoDocument as fault:
+        if fault.why is WhyNot.DAMAGED and not is_of_kind(name, data, kind):
+            raise NoDocument(WhyNot.OTHER_KIND) from fault
+        raise
     document = replace(document, parts=replacer.parts(document.parts))
     return Taken(_passages_of(document, how.volumes), replacer.counts, document)
 

@@ -536,6 +536,7 @@ _NO_DOCUMENT = {
     WhyNot.PDF: "is PDF, which has places on pages and no paragraphs. Ask for the document of which it"
     " was made",
     WhyNot.DAMAGED: "is damaged: it begins as a document does, and its parts can't be read",
+    WhyNot.OTHER_KIND: "isn't of the kind that --format names",
     WhyNot.TOO_LARGE: "unpacks to more than any book has",
     WhyNot.TOO_DEEP: "is nested too deeply: some of it, as an item of a list, stands within hundreds of"
     " others. Save it without these levels, and import it again",

@@ -41,6 +41,7 @@ class WhyNot(Enum):
     OTHER = auto()
     PDF = auto()
     DAMAGED = auto()
+    OTHER_KIND = auto()
     TOO_LARGE = auto()
     TOO_DEEP = auto()
     TABLES = auto()
@@ -170,6 +171,14 @@ def kind_of(name: str, data: bytes) -> ManuscriptKind:
     if front.startswith(_HTML) and b"<html" in front:
         return ManuscriptKind.HTML
     return _BY_NAME.get(PurePath(name).suffix.lower(), ManuscriptKind.TEXT)
+
+
+def is_of_kind(name: str, data: bytes, kind: ManuscriptKind) -> bool:
+    """Whether a file that can't be read as a document of a kind is one by its bytes or its name."""
+    try:
+        return kind_of(name, data) is kind
+    except NoDocument as fault:
+        return fault.why is WhyNot.DAMAGED
 
 
 def is_container(front: bytes) -> bool:
