@@ -185,6 +185,18 @@ def test_two_hyphens_are_words_after_those_that_end_the_options(
     assert (ran.status, ran.shown.splitlines()[0]) == (0, shown)
 
 
+def test_an_option_after_two_hyphens_is_no_text_to_be_put_in(book: Path) -> None:
+    with Session(book) as session:
+        session.add_paragraph("end", "en", "Two men - one.")
+    words = ["change-all", str(book), "--", "-", "--dry-run"]
+    ran = scribe(*words, folder=book.parent)
+    assert (ran.status, ran.said.splitlines()[0]) == (
+        1,
+        "--dry-run stands after --, and isn't taken as an option there. Put it before --.",
+    )
+    assert scribe(*words[:3], "-", "-h", folder=book.parent).status == 0
+
+
 def test_two_hyphens_are_words_at_a_prompt(book: Path) -> None:
     with Session(book) as session:
         session.add_paragraph("end", "en", "Two men -- one.")

@@ -111,6 +111,17 @@ class Parser(argparse.ArgumentParser):
             help="say what this does, with an example",
         )
 
+    def parse_known_args(self, args: Any = None, namespace: Any = None) -> Any:
+        """Parses words, and refuses an option that can only be a text, where one would change nothing."""
+        words, options = list(args or ()), self._option_string_actions
+        after = words[words.index("--") + 1 :] if "--" in words else []
+        taken = [each for each in after if each[:2] == "--" and each in options]
+        if taken and "--dry-run" in options:
+            self.refuse(
+                f"{taken[0]} stands after --, and isn't taken as an option there. Put it before --."
+            )
+        return super().parse_known_args(args, namespace)
+
     def _get_values(self, action: argparse.Action, arg_strings: list[str]) -> Any:
         # after those that end the options, two hyphens are a word as any, which argparse leaves out
         if action.nargs is None and arg_strings == ["--"]:
