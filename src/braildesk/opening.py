@@ -39,7 +39,7 @@ MAGIC = b"SQLite format 3\0"
 #: What a log begins with, by its two orders of bytes.
 LOGS = (b"\x37\x7f\x06\x82", b"\x37\x7f\x06\x83")
 #: Where the system shows what it has in things that look like files.
-_OF_SYSTEM = ("/proc/", "/sys/")
+_OF_SYSTEM = ("/proc/", "/sys/", "/dev/fd/", "/dev/std")
 #: With less room than this on its disk a book may not be kept, in bytes.
 _LITTLE = 2**20
 
@@ -65,8 +65,12 @@ def is_file_or_free(path: str) -> bool:
 
 
 def _is_file(path: str, mode: int) -> bool:
-    """Whether what has a mode is a file, and nothing of the system that may have to be waited for."""
-    return stat.S_ISREG(mode) and not os.path.realpath(path).startswith(_OF_SYSTEM)
+    """Whether what has a mode is a file, and nothing of the system that may have to be waited for.
+
+    What a process has open has other names in another one, and what stands there may be its output.
+    """
+    names = os.path.abspath(path), os.path.realpath(path)
+    return stat.S_ISREG(mode) and not any(each.startswith(_OF_SYSTEM) for each in names)
 
 
 #: What a failure of the system says of the room on a disk.

@@ -211,6 +211,21 @@ def test_what_the_system_shows_as_a_file_is_not_opened(
         assert caught.value.why is Why.NO_FILE
 
 
+def test_no_book_is_opened_by_the_number_of_what_a_process_has_open(book: Path) -> None:
+    empty = book.with_name("empty")
+    with open(empty, "wb") as output, open(book, "rb") as file:
+        attempts: list[Callable[[], object]] = [
+            lambda: braildesk.new_book(f"/dev/fd/{output.fileno()}"),
+            lambda: braildesk.Session(f"/proc/self/fd/{file.fileno()}"),
+            lambda: braildesk.check(f"/dev/fd/{file.fileno()}"),
+        ]
+        for attempt in attempts:
+            with pytest.raises(CannotOpen) as caught:
+                attempt()
+            assert caught.value.why is Why.NO_FILE
+    assert empty.read_bytes() == b""
+
+
 def test_a_link_to_what_is_handed_over_is_no_way_to_it(tmp_path: Path) -> None:
     link = tmp_path / "text"
     reader, writer = os.pipe()
