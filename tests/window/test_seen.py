@@ -1,13 +1,20 @@
 """What is seen of marks, of what is lit and selected, and of the focus, in any colours."""
 
 from collections.abc import Iterator
+from typing import Any
 
 import pytest
+from PyQt6.QtCore import QPoint, Qt
 from PyQt6.QtGui import QColor, QFocusEvent, QPalette
+from PyQt6.QtTest import QTest
 from PyQt6.QtWidgets import QApplication, QWidget
 
+from braildesk import Paragraph, Style
+
 from scribe.window.desk import Desk
+from scribe.window.dialogs import _Names
 from scribe.window.fields import Field
+from scribe.window.paragraphs import Paragraphs, Table
 
 BLACK, WHITE, YELLOW = QColor("black"), QColor("white"), QColor("yellow")
 
@@ -84,3 +91,28 @@ def test_each_part_has_a_frame_in_the_colour_of_texts_wider_with_the_focus(
             widths.append(colours.count(WHITE.name()))
             assert colours[: widths[-1]] == [WHITE.name()] * widths[-1], colours
         assert widths == [3, 1], part.accessibleName()
+
+
+def test_what_is_chosen_is_shown_as_chosen_wherever_a_click_comes(
+    application: QApplication,
+) -> None:
+    # its types take none of its functions for static ones
+    hands: Any = QTest
+    model = Paragraphs(lambda numbers: None)
+    book = [Paragraph(n, "en", Style.BODY, False, False, 8) for n in (1, 2)]
+    model.show(tuple(book))
+    table = Table(model, lambda event: False)
+    table.setCurrentIndex(model.index(1, 0))
+    for view in (table, _Names("Table", ("en", "ueb"), 1)):
+        view.resize(300, 300)
+        view.show()
+        area, chosen = view.viewport(), view.selectionModel()
+        assert area is not None and chosen is not None
+        here, keys = view.visualRect(view.currentIndex()).center(), Qt.KeyboardModifier
+        below, left = QPoint(20, area.height() - 5), Qt.MouseButton.LeftButton
+        for held, at in ((keys.ControlModifier, here), (keys.NoModifier, below)):
+            hands.mouseClick(area, left, held, at)
+            assert {each.row() for each in chosen.selectedIndexes()} == {1}
+        hands.keyClick(view, Qt.Key.Key_Space, keys.ControlModifier)
+        assert {each.row() for each in chosen.selectedIndexes()} == {1}
+        view.close()

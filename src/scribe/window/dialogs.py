@@ -7,7 +7,15 @@ from contextlib import contextmanager
 from pathlib import Path
 from typing import TypeVar
 
-from PyQt6.QtCore import QEvent, QObject, QSize, Qt, QTimer
+from PyQt6.QtCore import (
+    QEvent,
+    QItemSelectionModel,
+    QModelIndex,
+    QObject,
+    QSize,
+    Qt,
+    QTimer,
+)
 from PyQt6.QtGui import QFocusEvent, QFont, QKeyEvent
 from PyQt6.QtWidgets import (
     QApplication,
@@ -28,7 +36,7 @@ from PyQt6.QtWidgets import (
 
 from braildesk.text.characters import is_shown, visible
 
-from scribe.window.fields import ENTER, Field, is_letter, lines_of
+from scribe.window.fields import ENTER, Field, is_letter, lines_of, stays_chosen
 from scribe.window.worker import Worker
 
 Result = TypeVar("Result")
@@ -289,6 +297,12 @@ class _Names(QListWidget):
         self.setAccessibleName(title)
         self.addItems(names)
         self.setCurrentRow(first)
+
+    def selectionCommand(
+        self, index: QModelIndex, event: QEvent | None = None
+    ) -> QItemSelectionModel.SelectionFlag:
+        """One of the names is chosen at any time."""
+        return stays_chosen(index, super().selectionCommand(index, event))
 
     def focusInEvent(self, event: QFocusEvent | None) -> None:
         """Tells a screen reader of the chosen name too, and not of the list alone."""

@@ -7,7 +7,15 @@ import re
 from collections.abc import Callable, Sequence
 from pathlib import Path
 
-from PyQt6.QtCore import QEvent, QMimeData, Qt, QTimer, pyqtSignal
+from PyQt6.QtCore import (
+    QEvent,
+    QItemSelectionModel,
+    QMimeData,
+    QModelIndex,
+    Qt,
+    QTimer,
+    pyqtSignal,
+)
 from PyQt6.QtGui import (
     QDropEvent,
     QFocusEvent,
@@ -379,6 +387,18 @@ def frame(area: QFrame, has_focus: bool) -> int:
     area.setFrameStyle(QFrame.Shape.Box | QFrame.Shadow.Plain)
     area.setLineWidth(width)
     return width
+
+
+def stays_chosen(
+    index: QModelIndex, command: QItemSelectionModel.SelectionFlag
+) -> QItemSelectionModel.SelectionFlag:
+    """What is done where a view of Qt would show that nothing is chosen any more.
+
+    It would at a click with Ctrl, and at one below the last row; it acts on what was chosen still.
+    """
+    flags = QItemSelectionModel.SelectionFlag
+    stays = not index.isValid() or bool(command & flags.Deselect)
+    return flags.NoUpdate if stays else command
 
 
 def _underlined(form: QTextCharFormat) -> QTextCharFormat:

@@ -3,7 +3,14 @@
 from collections.abc import Callable, Sequence
 from typing import Any
 
-from PyQt6.QtCore import QAbstractTableModel, QEvent, QModelIndex, Qt, QTimer
+from PyQt6.QtCore import (
+    QAbstractTableModel,
+    QEvent,
+    QItemSelectionModel,
+    QModelIndex,
+    Qt,
+    QTimer,
+)
 from PyQt6.QtGui import QFocusEvent, QKeyEvent
 from PyQt6.QtWidgets import QAbstractItemView, QTableView
 
@@ -11,7 +18,7 @@ from braildesk import Paragraph, Style
 from braildesk.text.characters import visible
 
 from scribe.window.book import Opening
-from scribe.window.fields import frame
+from scribe.window.fields import frame, stays_chosen
 
 _COLUMNS = ("Number", "Kind", "Open marks", "First words")
 #: The column on which the cursor stands. A screen reader reads the row, cell by cell.
@@ -175,6 +182,12 @@ class Table(QTableView):
         if event is not None:
             super().focusOutEvent(event)
             frame(self, False)
+
+    def selectionCommand(
+        self, index: QModelIndex, event: QEvent | None = None
+    ) -> QItemSelectionModel.SelectionFlag:
+        """The row of the paragraph that is worked on is shown as chosen at any time."""
+        return stays_chosen(index, super().selectionCommand(index, event))
 
     def currentChanged(self, now: QModelIndex, before: QModelIndex) -> None:
         """Tells of the row that is chosen where this has the focus; Qt says elsewhere that it has."""
