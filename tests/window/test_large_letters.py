@@ -136,6 +136,9 @@ ASKED: dict[str, Ask] = {
         " The print there has been changed since. Shall it be typed further?",
         ("&Type it further", "&Give it up", "Change all the &rest", "&Later"),
     ),
+    "a question of many lines": lambda over: dialogs.choice(
+        over, "Part into volumes", "\n".join([QUOTED] * 50), ("&Yes", "&No")
+    ),
     "what takes long": _progress,
 }
 

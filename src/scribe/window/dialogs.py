@@ -30,6 +30,7 @@ from PyQt6.QtWidgets import (
     QListWidget,
     QMessageBox,
     QPushButton,
+    QScrollArea,
     QVBoxLayout,
     QWidget,
 )
@@ -81,23 +82,34 @@ def _fit(dialog: QDialog, width: int = 0, height: int = 0) -> None:
     """Has a dialog be as large as it needs to be, of a size at least, and whole on the screen.
 
     Where letters are large its words go on in the next line, and its buttons stand below each other;
-    where the screen is too small for that, its letters are smaller.
+    where the screen is too small for that, its letters are smaller, or else its words are scrolled.
     """
     screen = dialog.screen()
     assert screen is not None
     room = screen.availableGeometry().adjusted(0, 0, *_LESS_FOR_FRAME).size()
     # some have their other parts only once they were asked for a size
     dialog.sizeHint()
+    usual = QFont(dialog.font())
+    if not _is_fitted(dialog, width, room):
+        _scroll(dialog, usual)
+        _is_fitted(dialog, width, room)
+    for area in _within(dialog, QScrollArea):
+        _fill(dialog, area, _wide(dialog, width, room), room.height())
+    wanted = QSize(width, height).expandedTo(dialog.sizeHint())
+    dialog.resize(wanted.boundedTo(room))
+
+
+def _is_fitted(dialog: QDialog, width: int, room: QSize) -> bool:
+    """Has a dialog have letters by which it has room; whether there are any that can be read."""
     _lay_out(dialog, room)
     its = dialog.font()
     while not _has_room(dialog, width, room):
         its.setPointSizeF(its.pointSizeF() * _SMALLER)
         if its.pointSizeF() < _LEAST_POINTS:
-            break
+            return False
         dialog.setFont(its)
         _lay_out(dialog, room)
-    wanted = QSize(width, height).expandedTo(dialog.sizeHint())
-    dialog.resize(wanted.boundedTo(room))
+    return True
 
 
 def _lay_out(dialog: QDialog, room: QSize) -> None:
@@ -112,7 +124,9 @@ def _lay_out(dialog: QDialog, room: QSize) -> None:
         least = min(longest, line, room.width() - _BESIDE)
         # a narrower one is made wide enough by Qt, for which it may not be said to be
         is_wide = least > min(room.width() // 2, _WIDTH)
-        label.setMinimumWidth(least if is_wide else 0)
+        areas = [e for e in _within(dialog, QScrollArea) if e.widget() is label]
+        part: QWidget = areas[0] if areas else label
+        part.setMinimumWidth(least if is_wide else 0)
     for buttons in _within(dialog, QDialogButtonBox):
         buttons.setOrientation(Qt.Orientation.Horizontal)
         if buttons.sizeHint().width() > room.width() - _BESIDE:
@@ -123,9 +137,47 @@ def _has_room(dialog: QDialog, width: int, room: QSize) -> bool:
     """Whether a dialog that is so wide at least has room."""
     layout = dialog.layout()
     assert layout is not None
+    wide = _wide(dialog, width, room)
+    is_narrow = layout.totalMinimumSize().width() <= room.width()
+    return is_narrow and layout.totalHeightForWidth(wide) <= room.height()
+
+
+def _wide(dialog: QDialog, width: int, room: QSize) -> int:
+    """How wide a dialog is that is so wide at least."""
+    layout = dialog.layout()
+    assert layout is not None
     least = layout.totalMinimumSize().width()
-    wide = min(max(width, least, room.width() // 2), room.width())
-    return least <= room.width() and layout.totalHeightForWidth(wide) <= room.height()
+    return min(max(width, least, room.width() // 2), room.width())
+
+
+def _scroll(dialog: QDialog, usual: QFont) -> None:
+    """Has the longest words of a dialog be scrolled, and be in letters as they are elsewhere.
+
+    Tab goes to them too, and the arrow keys move them.
+    """
+    dialog.setFont(usual)
+    labels, layout = _within(dialog, QLabel), dialog.layout()
+    if not labels or layout is None or _within(dialog, QScrollArea):
+        return
+    label = max(labels, key=lambda each: len(each.text()))
+    area = QScrollArea(dialog)
+    area.setWidgetResizable(True)
+    area.setHorizontalScrollBarPolicy(Qt.ScrollBarPolicy.ScrollBarAlwaysOff)
+    area.setAccessibleName(label.text())
+    layout.replaceWidget(label, area)
+    label.setMinimumWidth(0)
+    area.setWidget(label)
+
+
+def _fill(dialog: QDialog, area: QScrollArea, width: int, height: int) -> None:
+    """Has what is scrolled take what the other parts of a dialog of a size leave."""
+    layout, label = dialog.layout(), area.widget()
+    assert layout is not None and label is not None
+    area.setMinimumHeight(1)
+    others = layout.totalHeightForWidth(width) if layout.hasHeightForWidth() else 0
+    others = max(others, layout.totalMinimumSize().height())
+    its = label.heightForWidth(area.minimumWidth()) + 2 * area.frameWidth()
+    area.setMinimumHeight(max(0, min(its, height - others)))
 
 
 def _within(dialog: QDialog, kind: type[Part]) -> list[Part]:
