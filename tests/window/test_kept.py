@@ -7,11 +7,15 @@ import sys
 from pathlib import Path
 
 import pytest
+from PyQt6.QtCore import QTimer
+from PyQt6.QtGui import QInputMethodEvent
+from PyQt6.QtWidgets import QApplication, QPushButton, QWidget
 
 from braildesk import DeskError, Session
 from braildesk.desk.draft import Aim, Draft
 from braildesk.desk.drafts import Drafts
 
+from scribe.window import dialogs
 from scribe.words.console import WAITING
 
 from conftest import Open, prints
@@ -111,16 +115,34 @@ def test_a_text_that_is_typed_at_an_offer_is_no_answer_to_it_and_is_set_aside(
     window = at(moon, is_waited_for=False)
     window.top = window.dialog("Unsent text")
     window.type(text)
-    if end is not None:
+    if end is None:
+        # Enter belongs to the text, and a second one answers what does least
+        window.press("Return")
+        asked = (
+            "A text of paragraph 1 was typed and isn't in the book: “The Moon rose.”. Shall it be"
+            " typed further?"
+        )
+        no_answer = (
+            "What is typed here is no answer. Tab goes to one, and Enter gives it."
+        )
+        window.part("label", f"{asked}\n\n{no_answer}")
+        assert window.part("push button", "Later").get_description() == no_answer
+        window.press("Return")
+        window.no_dialog()
+        window.opened()
+        window.says(f" set aside: “{text}”. Ctrl+B brings it back.")
+        window.press("Ctrl+q")
+        assert window.end() == 0
+    else:
         window.until("it is kept", lambda: _unread(moon) == text)
         window.program.send_signal(end)
         assert window.end() == -end
-        window = at(moon, is_waited_for=False)
-        window.top = window.dialog("Unsent text")
+    window = at(moon, is_waited_for=False)
+    window.top = window.dialog("Unsent text")
     window.press("Return")
     window.no_dialog()
     window.opened()
-    if end is not signal.SIGTERM:
+    if end is signal.SIGKILL:
         window.says(f" set aside: “{text}”. Ctrl+B brings it back.")
     window.reads("Print", "The Moon rose.")
     assert [each.text for each in Drafts(moon).given_up()] == [text]
@@ -134,7 +156,11 @@ def _unread(book: Path) -> str:
 
 def test_an_offer_is_answered_by_keys_that_type_nothing(moon: Path, at: Open) -> None:
     soon = Draft(Aim.EDIT, 1, "en", "The Moon", "The Moon rose.", None, 5)
-    for keys in (["Alt+g"], ["Tab", " "], ["x", "BackSpace", "Tab", "Return"]):
+    for keys in (
+        *(["Alt+g"], ["Tab", " "], ["x", "BackSpace", "Tab", "Return"]),
+        # Space alone goes to the last answer
+        [" ", "Tab", "Tab", "Return"],
+    ):
         Drafts(moon).save(soon)
         window = at(moon, is_waited_for=False)
         window.top = window.dialog("Unsent text")
@@ -147,6 +173,28 @@ def test_an_offer_is_answered_by_keys_that_type_nothing(moon: Path, at: Open) ->
         window.press("Ctrl+q")
         assert window.end() == 0
         assert [each.text for each in Drafts(moon).given_up()] == [soon.text]
+
+
+def test_what_dead_keys_make_at_an_offer_belongs_to_the_text_typed_there(
+    application: QApplication,
+) -> None:
+    typed: list[str] = []
+
+    def type_there() -> None:
+        button, box = application.focusWidget(), application.activeModalWidget()
+        if box is None or not isinstance(button, QPushButton):
+            QTimer.singleShot(10, type_there)
+            return
+        for part in ("caf", "é"):
+            event = QInputMethodEvent()
+            event.setCommitString(part)
+            QApplication.sendEvent(button, event)
+        box.close()
+
+    QTimer.singleShot(0, type_there)
+    answers = ("&Yes", "&Later")
+    assert dialogs.offer(QWidget(), "Import", "Again?", answers, typed.append) == 1
+    assert typed == ["caf", "café"]
 
 
 def test_a_text_that_is_typed_at_the_offer_of_an_import_leaves_out_nothing_of_it(
@@ -166,7 +214,7 @@ def test_a_text_that_is_typed_at_the_offer_of_an_import_leaves_out_nothing_of_it
     window = at(moon, is_waited_for=False)
     window.top = window.dialog("Import")
     window.type("rest")
-    window.press("Escape")
+    window.press("Return", "Return")
     window.no_dialog()
     window.opened()
     window.says("“rest”. Ctrl+B brings it back.")

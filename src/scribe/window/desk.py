@@ -852,8 +852,7 @@ class Desk:
 
         def keep(text: str) -> None:
             nonlocal typed
-            # a letter alone is meant as an answer
-            typed = text.strip() if len(text.strip()) > 1 else ""
+            typed = text
             self._keep_unread(Unread("", self._of_new(typed)) if typed else None)
 
         answer = offer(self.window, title, asked, answers, keep)

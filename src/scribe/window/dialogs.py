@@ -16,7 +16,7 @@ from PyQt6.QtCore import (
     Qt,
     QTimer,
 )
-from PyQt6.QtGui import QFocusEvent, QFont, QKeyEvent
+from PyQt6.QtGui import QFocusEvent, QFont, QInputMethodEvent, QKeyEvent
 from PyQt6.QtWidgets import (
     QApplication,
     QCheckBox,
@@ -45,11 +45,11 @@ Part = TypeVar("Part", bound=QWidget)
 #: Says how far something is that takes long; and whether it is to end.
 Say = Callable[[str], None]
 IsStopped = Callable[[], bool]
-# keys that go from one button to another
-_GOING = (
-    *(Qt.Key.Key_Tab, Qt.Key.Key_Backtab, Qt.Key.Key_Left, Qt.Key.Key_Right),
-    *(Qt.Key.Key_Up, Qt.Key.Key_Down),
-)
+# keys that go from one button to another, of which the last are those of a text too
+_TABS = (Qt.Key.Key_Tab, Qt.Key.Key_Backtab)
+_ARROWS = (*(Qt.Key.Key_Left, Qt.Key.Key_Right), *(Qt.Key.Key_Up, Qt.Key.Key_Down))
+# what is said where a text or Space came that answers nothing
+_NO_ANSWER = "What is typed here is no answer. Tab goes to one, and Enter gives it."
 # when a dialog of progress is shown, and how often what it says is looked at
 _SHOWN_AFTER_SECONDS = 0.4
 _PACE_MILLISECONDS = 100
@@ -217,7 +217,8 @@ def offer(
 ) -> int:
     """Asks what no key has asked for: a text that is typed on there is no answer, and is handed on.
 
-    Qt would take the first letter of an answer for it, and Space for the answer that has the focus.
+    Qt would take the first letter of an answer for it, Space for the answer that has the focus, and the
+    Enter after the text too.
     """
     application, blind = QApplication.instance(), _Blind(typed)
     assert application is not None
@@ -229,36 +230,69 @@ def offer(
 
 
 class _Blind(QObject):
-    """Takes the text that is typed where buttons have the focus."""
+    """Takes the text that is typed where buttons have the focus, with the ends of its lines."""
 
     def __init__(self, typed: Callable[[str], None]) -> None:
         super().__init__()
         self._hand_on = typed
         self._text = ""
-        # Space presses a button that was gone to
-        self._is_gone_to = False
+        # Enter and Space press a button that was gone to
+        self._is_gone_to = self._is_said = False
+
+    @property
+    def _is_text(self) -> bool:
+        """Whether a text is typed: a letter alone is meant as an answer."""
+        return len(self._text.strip()) > 1
 
     def eventFilter(self, to: QObject | None, event: QEvent | None) -> bool:
-        """Takes letters and what takes them away, and Space unless a button was gone to."""
-        if not isinstance(event, QKeyEvent) or event.type() != QEvent.Type.KeyPress:
-            return False
+        """Takes letters, what takes them away, and Space and Enter unless a button was gone to."""
         if not isinstance(to, (QPushButton, QMessageBox)):
             return False
-        text = self._text
-        if event.key() in _GOING:
-            self._is_gone_to = True
-        elif event.key() == Qt.Key.Key_Backspace:
-            text = text[:-1]
-        elif is_letter(event) and not (self._is_gone_to and event.text() == " "):
-            text += event.text()
-            self._is_gone_to = False
-        else:
+        text = self._after(event)
+        if text is None:
             return False
-        is_taken = text != self._text
+        is_typed = len(text) > len(self._text)
         self._text = text
-        if is_taken:
-            self._hand_on(text)
-        return is_taken
+        self._is_gone_to = self._is_gone_to and not is_typed
+        self._hand_on(text.strip() if self._is_text else "")
+        if text.endswith("\n") or not text.strip() and is_typed:
+            self._say(to)
+        return True
+
+    def _after(self, event: QEvent | None) -> str | None:
+        """The text after what came; none where that is for the buttons."""
+        text = self._text
+        if isinstance(event, QInputMethodEvent):
+            return text + event.commitString()
+        if not isinstance(event, QKeyEvent) or event.type() != QEvent.Type.KeyPress:
+            return None
+        key = event.key()
+        if key in _ARROWS and self._is_text:
+            return text
+        if key in (*_TABS, *_ARROWS):
+            self._is_gone_to = True
+        elif key == Qt.Key.Key_Backspace and text:
+            return text[:-1]
+        elif key in ENTER and self._is_text and not self._is_gone_to:
+            # a second one gives the answer that does least
+            return None if text.endswith("\n") else f"{text}\n"
+        elif is_letter(event) and not (self._is_gone_to and event.text() == " "):
+            return text + event.text()
+        return None
+
+    def _say(self, to: QWidget) -> None:
+        """Says once that nothing was answered, and goes to the last answer, which does least."""
+        box = to.window()
+        if self._is_said or not isinstance(box, QMessageBox):
+            return
+        self._is_said = True
+        last = box.escapeButton()
+        assert isinstance(last, QPushButton)
+        last.setAccessibleDescription(_NO_ANSWER)
+        box.setDefaultButton(last)
+        last.setFocus()
+        box.setText(f"{box.text()}\n\n{_NO_ANSWER}")
+        _fit(box)
 
 
 def text(

@@ -65,7 +65,8 @@ def came_last(text: str) -> str:
 
 def typed_at_offer(text: str) -> str:
     """That a text which was typed where something was asked is among those given up."""
-    return f"What was typed at the question is set aside: {quoted(text)}."
+    joined = text.replace("\n", " ")
+    return f"What was typed at the question is set aside: {quoted(joined)}."
 
 
 def typed_meanwhile(text: str) -> str:
