@@ -43,9 +43,9 @@ _PACE_SECONDS = 0.02
 # the roles of parts that a window has from its front to its end, by names that stay
 _LASTING = ("text", "table")
 
-#: What is told on the bus of the part that takes the focus.
-FOCUS = "object:state-changed:focused"
-_TOLD = (FOCUS, "object:text-caret-moved", "object:text-selection-changed")
+#: What is told on the bus of the part that takes the focus, and of one in which another text is selected.
+FOCUS, SELECTION = "object:state-changed:focused", "object:text-selection-changed"
+_TOLD = (FOCUS, "object:text-caret-moved", SELECTION)
 
 #: States of parts.
 EDITABLE, FOCUSABLE = Atspi.StateType.EDITABLE, Atspi.StateType.FOCUSABLE

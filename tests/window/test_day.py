@@ -6,6 +6,7 @@ from pathlib import Path
 from braildesk import Session
 
 from conftest import Open, prints
+from reader import SELECTION, hearing
 
 FAR = "⠠⠞⠓⠑⠀⠍⠕⠕⠝⠀⠊⠎⠀⠋⠁⠗⠀⠁⠺⠁⠽⠲"
 MARK = "Mark 1, open, on “mon”: spelled so?"
@@ -259,6 +260,13 @@ def test_escape_goes_back_also_where_the_message_was_gone_to_twice(
     window.press("Alt+Up")
     window.focus("text", "Message")
     window.press("F6")
+    window.selects("Message", f"Again: {refused}")
+    with hearing() as heard:
+        # it is there to be read again each time
+        for _ in range(2):
+            heard.clear()
+            window.press("F6")
+            window.until("the message, again", lambda: (SELECTION, "Message") in heard)
     window.selects("Message", f"Again: {refused}")
     # what is typed by hands that don't know yet of a refusal goes on in the print also then
     window.type("A ")

@@ -311,9 +311,15 @@ class Desk:
             self._have_read()
 
     def _have_read(self) -> None:
-        """Has the message be read anew, of which a screen reader reads only what is selected."""
+        """Has the message be read anew, of which a screen reader reads only what is selected.
+
+        Of what is selected already it reads what comes to be there, as if it came just now.
+        """
         message = self.window.message
-        message.select(Span(0, len(message.text)))
+        text, whole = message.text, Span(0, len(message.text))
+        if message.selected == whole:
+            message.setPlainText(text)
+        message.select(whole)
 
     def _say_besides(self, sentence: str) -> None:
         """Says something after what was refused, if that is being read."""
