@@ -419,14 +419,19 @@ def test_the_message_says_that_the_program_is_waited_for_until_it_answers(
     desk: Desk, monkeypatch: pytest.MonkeyPatch
 ) -> None:
     monkeypatch.setattr("scribe.window.worker._LONG_MILLISECONDS", 0, raising=False)
-    said, is_seen = list[str](), Event()
+    said, is_seen = list[tuple[str, bool]](), Event()
+    desk.window.print.setFocus()
     desk.say("Kept: paragraph 1.")
     message = desk.window.message
 
     def look() -> None:
-        said.append(message.text)
+        # it is heard where the focus is
+        is_heard = desk.window.focusWidget() is message
+        said.append((message.text, is_heard))
         is_seen.set()
 
     message.textChanged.connect(look)
     assert desk.asked(lambda: is_seen.wait(60))
-    assert said == ["Waiting for braildesk to answer.", "Kept: paragraph 1."]
+    waiting, before = "Waiting for braildesk to answer.", "Kept: paragraph 1."
+    assert said == [(waiting, True), (before, False)]
+    assert desk.window.focusWidget() is desk.window.print

@@ -107,6 +107,8 @@ class Desk:
     #: How the session ended, in sentences, until the book is open again.
     loss = ""
 
+    # what had the focus before the program was waited for, while that is said
+    _waits_from: QWidget | None = None
     def __init__(
         self,
         path: Path,
@@ -296,12 +298,24 @@ class Desk:
         return self.work.result(act)
 
     def _say_waiting(self, is_waiting: bool) -> None:
-        """Says that the program doesn't answer, until it does."""
+        """Says that the program doesn't answer, until it does.
+
+        The message has the focus meanwhile, so that it is heard; what is pressed is held in any case.
+        """
         message = self.window.message
         if is_waiting:
             self._said_before = message.text
-            self.say(WAITING)
-        elif message.text == WAITING:
+            self._waits_from = self.window.focusWidget()
+            if self._waits_from is message:
+                self.say(WAITING)
+            else:
+                message.setFocus()
+                self.window.tell(WAITING)
+            return
+        before, self._waits_from = self._waits_from, None
+        if before is not None and self.window.focusWidget() is message:
+            before.setFocus()
+        if message.text == WAITING:
             self.say(self._said_before)
 
     def say(self, sentence: str) -> None:
@@ -822,7 +836,8 @@ class Desk:
     def _text_held(self) -> Unread | None:
         """The text that was typed while the window waits: lines after a new paragraph, or one by itself."""
         text, field = self.held.text.strip(), self.window.print
-        is_in_print = self.window.focusWidget() is field and not field.isReadOnly()
+        focused = self._waits_from or self.window.focusWidget()
+        is_in_print = focused is field and not field.isReadOnly()
         if not text or not is_in_print and len(text) <= _FEW:
             return None
         draft = self.draft()
