@@ -358,6 +358,34 @@ def test_what_another_program_types_while_another_paragraph_is_read_is_given_up(
     assert Drafts(moon).waiting() is None
 
 
+@pytest.mark.parametrize("is_long", [False, True])
+def test_what_another_program_types_below_a_dialog_is_given_up(
+    moon: Path, at: Open, is_long: bool
+) -> None:
+    window, title = at(moon), "Find"
+    program = session_of(window)
+    if is_long:
+        title = "Take back: please wait"
+        window.press("Ctrl+t")
+        window.says("Kept")
+        os.kill(program, signal.SIGSTOP)
+    window.press("Ctrl+z" if is_long else "Ctrl+f")
+    window.dialog(title)
+    window.insert("Print", "It rose.")
+    window.reads("Print", "It rose.")
+    os.kill(program, signal.SIGCONT)
+    if not is_long:
+        window.type("sea")
+        window.press("Return")
+    window.says("below the dialog is set aside: “It rose.”. Ctrl+B brings it back.")
+    window.says("Taken back" if is_long else "Paragraph 3, character")
+    text = "The Moon" if is_long else "Twice a day the sea comes up."
+    window.reads("Print", text)
+    assert [each.text for each in Drafts(moon).given_up()] == ["It rose."]
+    assert prints_after(window, moon)[0] == "The Moon"
+    assert Drafts(moon).waiting() is None
+
+
 def test_what_is_dropped_while_the_window_waits_stays_where_it_comes_from(
     application: QApplication, desk: Desk
 ) -> None:

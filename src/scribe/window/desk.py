@@ -59,6 +59,7 @@ from scribe.words.drafts import (
     changed_since,
     not_kept,
     typed_at_offer,
+    typed_below,
     typed_meanwhile,
     what_for,
 )
@@ -106,9 +107,11 @@ class Desk:
     is_closed = False
     #: How the session ended, in sentences, until the book is open again.
     loss = ""
-
     # what had the focus before the program was waited for, while that is said
     _waits_from: QWidget | None = None
+    # the print as it was before a dialog was opened, with its caret
+    _beneath = "", 0, 0
+
     def __init__(
         self,
         path: Path,
@@ -177,6 +180,7 @@ class Desk:
         window.print.typed_on.connect(lambda _: self._refuse_to_type())
         # Enter is where the print is typed, as on the screen
         window.table.activated.connect(lambda _: self.act("to_print"))
+        window.covered.connect(self._cover)
         window.cells.entered.connect(lambda: self.act("to_print"))
 
     def _look_at_end(self) -> None:
@@ -450,16 +454,50 @@ class Desk:
         try:
             yield
         finally:
-            text = self.window.print.text
-            if text.strip() and text != before:
-                draft = self._of_new(text)
-                if was is not None:
-                    its = was.its.paragraph
-                    what = Draft(Aim.EDIT, its.id, its.table, was.its.text, text)
-                    draft = replace(what, version=self.contents.version)
-                how = self.aside.result(lambda: self.unsent.put_by(draft), False)
-                how = how or "Ctrl+B brings it back."
-                self._meanwhile = f"{typed_meanwhile(text)} {how}"
+            self._give_up_typed(was, before, typed_meanwhile)
+
+    def _give_up_typed(
+        self, was: ChosenParagraph | None, before: str, said: Callable[[str], str]
+    ) -> None:
+        """Gives up what the print has, unless that is what it had before, at a paragraph."""
+        text, new = self.window.print.text, self.new
+        if not text.strip() or text == before:
+            return
+        draft = self._of_new(text)
+        if new is not None:
+            draft = replace(draft, aim=new.aim, paragraph=new.paragraph)
+        elif was is not None:
+            its = was.its.paragraph
+            what = Draft(Aim.EDIT, its.id, its.table, was.its.text, text)
+            draft = replace(what, version=self.contents.version)
+        how = self.aside.result(lambda: self.unsent.put_by(draft), False)
+        how = how or "Ctrl+B brings it back."
+        self._meanwhile = f"{said(text)} {how}"
+
+    def _cover(self, is_covered: bool) -> None:
+        """Gives up what others than hands type in the print below a dialog.
+
+        What is done once the dialog is answered is about the print as it was.
+        """
+        field = self.window.print
+        cursor = field.textCursor()
+        if is_covered:
+            self._beneath = field.text, cursor.anchor(), cursor.position()
+            return
+        before, anchor, position = self._beneath
+        if field.text == before or self.is_ending:
+            return
+        self._give_up_typed(self.reading, before, typed_below)
+        self._is_showing = True
+        try:
+            field.show_text(before)
+            cursor = field.textCursor()
+            cursor.setPosition(anchor)
+            cursor.setPosition(position, cursor.MoveMode.KeepAnchor)
+            field.setTextCursor(cursor)
+        finally:
+            self._is_showing = False
+        self.keep_draft(self.draft())
 
     def show_row(self, row: int) -> None:
         """Shows the print and the braille of a paragraph."""

@@ -3,7 +3,7 @@
 from collections.abc import Callable, Mapping, Sequence
 from pathlib import Path
 
-from PyQt6.QtCore import QSettings, QSize, Qt, pyqtSignal
+from PyQt6.QtCore import QEvent, QSettings, QSize, Qt, pyqtSignal
 from PyQt6.QtGui import (
     QCloseEvent,
     QDragEnterEvent,
@@ -62,6 +62,8 @@ class Window(QMainWindow):
 
     #: A file was dropped on the window.
     dropped = pyqtSignal(Path)
+    #: A dialog was opened over the window, or none is any more.
+    covered = pyqtSignal(bool)
 
     def __init__(
         self,
@@ -152,6 +154,15 @@ class Window(QMainWindow):
         for field, count in zip((self.here, self.message), lines):
             height = field.fontMetrics().lineSpacing() * count + 2 * AROUND
             field.setFixedHeight(height)
+
+    def event(self, event: QEvent | None) -> bool:
+        """Says that a dialog was opened over this, or that none is any more."""
+        if event is None:
+            return False
+        kind, kinds = event.type(), QEvent.Type
+        if kind in (kinds.WindowBlocked, kinds.WindowUnblocked):
+            self.covered.emit(kind == kinds.WindowBlocked)
+        return super().event(event)
 
     def resizeEvent(self, event: QResizeEvent | None) -> None:
         """What has the focus stays in sight."""

@@ -74,6 +74,11 @@ def typed_meanwhile(text: str) -> str:
     return f"What was typed before this was shown is set aside: {quoted(text)}."
 
 
+def typed_below(text: str) -> str:
+    """That a text which another program typed while a dialog was open over its place is given up."""
+    return f"What was typed below the dialog is set aside: {quoted(text)}."
+
+
 def words_wait(words: tuple[str, str]) -> str:
     """That words which were typed to take the place of others aren't in the book."""
     old, new = words
