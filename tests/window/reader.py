@@ -213,9 +213,15 @@ class Reader:
 
     def cells(self, row: int) -> list[str]:
         """What is in each cell of a row of the table."""
+        return [str(each.get_name()) for each in self._cells(row)]
+
+    def about(self, row: int) -> list[str]:
+        """What is told of each cell of a row besides what it has."""
+        return [str(each.get_description() or "") for each in self._cells(row)]
+
+    def _cells(self, row: int) -> Iterator[Part]:
         table, count = self.part("table", "Paragraphs"), 4
-        its = (Atspi.Table.get_accessible_at(table, row, n) for n in range(count))
-        return [str(each.get_name()) for each in its]
+        return (Atspi.Table.get_accessible_at(table, row, n) for n in range(count))
 
     def lists(self, row: int, words: str) -> None:
         """Waits until a paragraph is read so in the table."""

@@ -163,6 +163,30 @@ def test_of_an_empty_line_it_is_told_first_that_it_has_the_focus(
     assert [kind for kind, of in heard if of == name][0] == FOCUS
 
 
+def test_what_a_letter_did_in_the_table_is_told_at_its_row_until_another_is_chosen(
+    window: Reader, heard: list[tuple[str, str]]
+) -> None:
+    window.press("Down")
+    window.until("the row", lambda: (FOCUS, "The mon is far away.") in heard)
+    heard.clear()
+    window.press("b")
+    window.until("its kind", lambda: (FOCUS, "heading") in heard)
+    window.says("Kept: ")
+    kept = window.text("Message")
+    assert window.about(1) == ["", kept, "", ""]
+    said = ["b", "Kind column header heading.", _ended(kept)]
+    assert SAID["making a heading"] == [each.replace("2", "3") for each in said]
+    # after a dialog it is told with the whole row
+    window.press("m")
+    window.dialog("Mark in paragraph 2")
+    window.press("Return")
+    window.no_dialog()
+    window.says("Kept: mark 2.")
+    window.until("it", lambda: window.about(1) == ["", "", "", "Kept: mark 2."])
+    window.press("Up")
+    window.until("none", lambda: not any(window.about(0) + window.about(1)))
+
+
 def test_no_row_is_told_to_have_the_focus_while_another_part_has_it(
     window: Reader, heard: list[tuple[str, str]]
 ) -> None:

@@ -23,6 +23,7 @@ from scribe.window.fields import frame, stays_chosen
 _COLUMNS = ("Number", "Kind", "Open marks", "First words")
 #: The column on which the cursor stands. A screen reader reads the row, cell by cell.
 WORDS = len(_COLUMNS) - 1
+_KIND = 1
 # what is above and below the words of a row, in pixels
 _ROW_MARGIN = 8
 # what most rows have in the columns before the words, which is seen whole; and so many rows are seen
@@ -44,6 +45,8 @@ class Paragraphs(QAbstractTableModel):
         self._asked: set[int] = set()
         #: How often the book was another one; what was asked before may have been read before.
         self.turn = 0
+        #: Where a screen reader is told something, by its row and column, and what.
+        self.told: tuple[int, int, str] | None = None
 
     def rowCount(self, parent: QModelIndex = QModelIndex()) -> int:
         return 0 if parent.isValid() else len(self._book)
@@ -62,6 +65,9 @@ class Paragraphs(QAbstractTableModel):
         if not index.isValid():
             return None
         its, column = self._book[index.row()], index.column()
+        if role == Qt.ItemDataRole.AccessibleDescriptionRole and self.told is not None:
+            *where, said = self.told
+            return said if where == [index.row(), column] else None
         if role != Qt.ItemDataRole.DisplayRole:
             return None
         if column < 2:
@@ -115,6 +121,11 @@ class Paragraphs(QAbstractTableModel):
         if self._book:
             self._tell(0, len(self._book) - 1)
 
+    def be_as_new(self) -> None:
+        """Has each cell be another one for a screen reader, which hears nothing of one that it has."""
+        self.layoutAboutToBeChanged.emit()
+        self.layoutChanged.emit()
+
     def _tell(self, first: int, last: int) -> None:
         self.dataChanged.emit(self.index(first, 0), self.index(last, WORDS))
 
@@ -135,6 +146,9 @@ class Table(QTableView):
     def __init__(self, model: Paragraphs, letter: Callable[[QKeyEvent], bool]) -> None:
         super().__init__()
         self._letter = letter
+        self._model = model
+        # the row of which a screen reader was told last, unless all rows are other ones by now
+        self._told_of, self._is_reset = -1, False
         self.setModel(model)
         self.setAccessibleName("Paragraphs")
         self.setSelectionBehavior(QAbstractItemView.SelectionBehavior.SelectRows)
@@ -182,6 +196,26 @@ class Table(QTableView):
         if event is not None:
             super().focusOutEvent(event)
             frame(self, False)
+            self._model.told, self._told_of = None, -1
+
+    def reset(self) -> None:
+        """All rows are other ones, also for a screen reader."""
+        super().reset()
+        self._is_reset = True
+
+    def tell(self, sentence: str) -> None:
+        """Tells a screen reader something at the chosen row, which has the focus.
+
+        It says what the row is now, and then that; all of the row where it was at another one.
+        """
+        row = self.currentIndex().row()
+        is_same = row == self._told_of and not self._is_reset
+        column = _KIND if is_same else WORDS
+        self._model.told, self._is_reset = (row, column, sentence), False
+        if self.hasFocus() and row >= 0:
+            self._model.be_as_new()
+            its = self._model.index(row, column)
+            super().currentChanged(its, its)
 
     def selectionCommand(
         self, index: QModelIndex, event: QEvent | None = None
@@ -191,13 +225,17 @@ class Table(QTableView):
 
     def currentChanged(self, now: QModelIndex, before: QModelIndex) -> None:
         """Tells of the row that is chosen where this has the focus; Qt says elsewhere that it has."""
+        if self._model.told is not None and self._model.told[0] != now.row():
+            self._model.told = None
         if self.hasFocus():
+            self._told_of = now.row()
             super().currentChanged(now, before)
         else:
             QAbstractItemView.currentChanged(self, now, before)
 
     def _tell_of_row(self) -> None:
         if self.hasFocus():
+            self._is_reset = False
             self.currentChanged(self.currentIndex(), self.currentIndex())
 
     def keyPressEvent(self, event: QKeyEvent | None) -> None:

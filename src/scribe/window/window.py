@@ -180,9 +180,14 @@ class Window(QMainWindow):
         return whole
 
     def tell(self, sentence: str) -> None:
-        """Shows something in the message. A screen reader says it too where a text takes the focus."""
+        """Shows something in the message. A screen reader says it too where a text takes the focus.
+
+        It does so at once where the paragraphs have it.
+        """
         self.message.show_text(sentence)
         focused = self.focusWidget()
+        if focused is self.table:
+            self.table.tell(sentence)
         if isinstance(focused, Field) and focused is not self.message:
             focused.setAccessibleDescription(sentence)
 
