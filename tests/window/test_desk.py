@@ -156,7 +156,7 @@ def test_a_line_end_from_elsewhere_is_a_blank(desk: Desk) -> None:
 
 
 def test_a_file_that_is_dropped_is_imported(
-    desk: Desk, asked: dict[str, int], tmp_path: Path
+    application: QApplication, desk: Desk, asked: dict[str, int], tmp_path: Path
 ) -> None:
     (text := tmp_path / "text.txt").write_text("One.\n\nTwo.\n")
     data = QMimeData()
@@ -168,11 +168,17 @@ def test_a_file_that_is_dropped_is_imported(
         Qt.MouseButton.LeftButton,
         Qt.KeyboardModifier.NoModifier,
     )
+    imported: list[Path] = []
+    desk.window.dropped.connect(imported.append)
     desk.window.dropEvent(drop)
+    # the program from which it is dropped doesn't wait for that
+    assert not imported
+    assert wait(application, 60, lambda: imported == [text])
     assert _prints(desk)[:3] == ["The Moon", "One.", "Two."]
     # once more it is asked first, and nothing is typed after No
     asked["Import"] = 1
     desk.window.dropEvent(drop)
+    assert wait(application, 60, lambda: imported == [text, text])
     assert len(_prints(desk)) == 5
 
 

@@ -3,7 +3,7 @@
 from collections.abc import Callable, Mapping, Sequence
 from pathlib import Path
 
-from PyQt6.QtCore import QEvent, QSettings, QSize, Qt, pyqtSignal
+from PyQt6.QtCore import QEvent, QSettings, QSize, Qt, QTimer, pyqtSignal
 from PyQt6.QtGui import (
     QCloseEvent,
     QDragEnterEvent,
@@ -273,11 +273,12 @@ class Window(QMainWindow):
                 event.acceptProposedAction()
 
     def dropEvent(self, event: QDropEvent | None) -> None:
-        """Says which file was dropped."""
+        """Says which file was dropped, once the program from which it comes waits no more."""
         data = event.mimeData() if event is not None else None
         if event is not None and data is not None and data.urls():
             event.acceptProposedAction()
-            self.dropped.emit(Path(data.urls()[0].toLocalFile()))
+            path = Path(data.urls()[0].toLocalFile())
+            QTimer.singleShot(0, lambda: self.dropped.emit(path))
 
     def closeEvent(self, event: QCloseEvent | None) -> None:
         """Ends the work on the book, unless there is something to see to first."""
