@@ -386,6 +386,32 @@ def test_what_another_program_types_below_a_dialog_is_given_up(
     assert Drafts(moon).waiting() is None
 
 
+def test_what_another_program_types_where_nothing_can_be_typed_is_given_up(
+    moon: Path, at: Open
+) -> None:
+    window = at(moon)
+    window.press("Ctrl+d")
+    window.says("Kept")
+    window.insert("Print", "It rose.")
+    window.reads(
+        "Message",
+        "Paragraph 1 is struck. Ctrl+D restores it, so that it can be changed. What was typed"
+        " there is set aside: “It rose.”. Ctrl+B brings it back.",
+    )
+    window.reads("Print", "The Moon")
+    assert [each.text for each in Drafts(moon).given_up()] == ["It rose."]
+    # below a dialog it is said once that is answered
+    window.press("Ctrl+f")
+    window.dialog("Find")
+    window.insert("Print", "It set.")
+    window.reads("Print", "The Moon")
+    window.type("sea")
+    window.press("Return")
+    window.says(
+        "Paragraph 3, character 17. What was typed there is set aside: “It set.”."
+    )
+
+
 def test_what_is_dropped_while_the_window_waits_stays_where_it_comes_from(
     application: QApplication, desk: Desk
 ) -> None:

@@ -61,6 +61,7 @@ from scribe.words.drafts import (
     typed_at_offer,
     typed_below,
     typed_meanwhile,
+    typed_there,
     what_for,
 )
 from scribe.words.paragraph import counted, mark_line, title
@@ -111,6 +112,8 @@ class Desk:
     _waits_from: QWidget | None = None
     # the print as it was before a dialog was opened, with its caret
     _beneath = "", 0, 0
+    # others than hands type where nothing can be typed
+    _is_typed_nowhere = False
 
     def __init__(
         self,
@@ -387,11 +390,15 @@ class Desk:
 
     def _refuse_to_type(self) -> None:
         """Says why nothing can be typed in the print, to hands that type there."""
-        why = NO_PARAGRAPH
-        if self.reading is not None:
-            its = self.reading.its.paragraph
-            why = f"Paragraph {its.id} {STRUCK if its.struck else _NOT_SHOWN}"
-        self.refuse(f"{why} Nothing was typed.")
+        self.refuse(f"{self._why_not_typed} Nothing was typed.")
+
+    @property
+    def _why_not_typed(self) -> str:
+        """Why nothing can be typed in the print."""
+        if self.reading is None:
+            return NO_PARAGRAPH
+        its = self.reading.its.paragraph
+        return f"Paragraph {its.id} {STRUCK if its.struck else _NOT_SHOWN}"
 
     # what is chosen and shown
 
@@ -952,6 +959,12 @@ class Desk:
     def _typed(self) -> None:
         if self._is_showing:
             return
+        if self.window.print.isReadOnly():
+            if not self._is_typed_nowhere:
+                # once all of it is there: it comes in parts
+                self._is_typed_nowhere = True
+                QTimer.singleShot(0, self._give_up_where_none_is_typed)
+            return
         if self.is_closed and self.beside is not None:
             # what is typed on in the print has to wait by itself
             self.put_by(self.beside)
@@ -977,6 +990,21 @@ class Desk:
         tables, now = self.book.tables, self.print_of(text)
         self.ahead.latest("preview", partial(tables.preview, table, text, now), take)
         self._unlinked()
+
+    def _give_up_where_none_is_typed(self) -> None:
+        """Gives up what others than hands type in the print where nothing can be typed, and says so."""
+        self._is_typed_nowhere = False
+        text = self.window.print.text
+        draft = self._of_new(text)
+        self.show_reading(0)
+        if text.strip():
+            how = self.aside.result(lambda: self.unsent.put_by(draft), False)
+            said = f"{typed_there(text)} {how or 'Ctrl+B brings it back.'}"
+            if self._is_acting:
+                # what is being done says something else first
+                self._meanwhile = said
+            else:
+                self.refuse(f"{self._why_not_typed} {said}")
 
     def table_of_typed(self) -> str | None:
         """The table of the print that is typed."""

@@ -79,6 +79,11 @@ def typed_below(text: str) -> str:
     return f"What was typed below the dialog is set aside: {quoted(text)}."
 
 
+def typed_there(text: str) -> str:
+    """That a text which another program typed where nothing can be typed is given up."""
+    return f"What was typed there is set aside: {quoted(text)}."
+
+
 def words_wait(words: tuple[str, str]) -> str:
     """That words which were typed to take the place of others aren't in the book."""
     old, new = words
