@@ -24,12 +24,14 @@ and ``wording`` fills in the sentences. Beside these folders, ``version`` reads 
 is no file. ``confined`` runs programs that others wrote within limits of time and memory.
 ``opening`` finds out why a file can't be opened, by its lock, its log and a stranger's tables, and
 tries again while it is in use. ``workshop`` makes files whole before they get their names,
-``writers`` says who may write a file, and ``held`` keeps a closed book from being opened. ``program`` finds and runs the program, ``files``
-reads tables and versions of books, and ``pipe`` moves bytes to and from a session of the program.
-``watch`` tells that another program had a file open for writing, ``openfile`` sees to the file of a
-session, ``beginning`` starts its program, ``rescue`` says what became of the file and saves the book
-from it, ``asking`` has a method for each request, and ``session`` is the session. ``making`` makes
-new books and copies, and ``snapshot`` copies a book that another program has open.
+``writers`` says who may write a file, and ``held`` keeps a closed book from being opened.
+``fenced`` keeps the program to the files of its book where other users may write, ``program`` finds
+and runs the program, ``files`` reads tables and versions of books, and ``pipe`` moves bytes to and
+from a session of the program. ``watch`` tells that another program had a file open for writing,
+``openfile`` sees to the file of a session, ``beginning`` starts its program, ``rescue`` says what
+became of the file and saves the book from it, ``asking`` has a method for each request, and
+``session`` is the session. ``making`` makes new books and copies, and ``snapshot`` copies a book
+that another program has open.
 """
 
 from importlib import import_module

@@ -22,7 +22,7 @@ def begun(
     programs.judge(book, words[0])
     file = OpenFile(book.path)
     try:
-        return Pipe(words, while_waiting), file
+        return Pipe(words, book, while_waiting), file
     except BaseException as error:
         file.close()
         if isinstance(error, OSError):

@@ -89,10 +89,10 @@ def fit_log(book: BookFile) -> None:
         return
     with suppress(OSError, ValueError), _folder(path.parent) as folder:
         # both lie in one folder, whatever is put in its place meanwhile
-        with _alone(folder, path.name) as file:
+        with alone(folder, path.name) as file:
             _remove_unfit(book, folder, name, file)
             _begin_log(folder, name, file)
-            with _alone(folder, name) as log:
+            with alone(folder, name) as log:
                 if has_more_writers(log, file):
                     raise _not_taken(book.path, file)
                 _give_mode(log, file)
@@ -114,12 +114,17 @@ def _remove_unfit(book: BookFile, folder: int, name: str, file: BinaryIO) -> Non
 def _is_unfit(folder: int, name: str, file: BinaryIO) -> bool:
     if not os.access(name, os.R_OK | os.W_OK, dir_fd=folder):
         return True
-    with _alone(folder, name) as log:
+    with alone(folder, name) as log:
         return has_more_writers(log, file)
 
 
 def _begin_log(folder: int, name: str, file: BinaryIO) -> None:
-    """Makes an empty log that is like its book, unless one is there, before somebody else makes one."""
+    """Makes an empty log that is like its book, unless one is there, before somebody else makes one.
+
+    What has no bytes is no book without a log.
+    """
+    if not os.fstat(file.fileno()).st_size:
+        return
     flags = os.O_RDWR | os.O_CREAT | os.O_EXCL | os.O_NOFOLLOW | os.O_CLOEXEC
     with suppress(FileExistsError):
         with open(os.open(name, flags, 0o600, dir_fd=folder), "r+b") as log:
@@ -151,7 +156,7 @@ def _folder(path: Path) -> Iterator[int]:
         os.close(folder)
 
 
-def _alone(folder: int, name: str) -> BinaryIO:
+def alone(folder: int, name: str) -> BinaryIO:
     """A regular file with one name, OSError for anything else."""
     flags = os.O_RDONLY | os.O_NOFOLLOW | os.O_NONBLOCK | os.O_CLOEXEC
     # a device isn't even opened; and what was opened is looked at again, since names change

@@ -12,6 +12,8 @@ from dataclasses import dataclass
 from subprocess import PIPE, Popen
 from typing import IO
 
+from braildesk.fenced import started
+from braildesk.protocol.asked import BookFile
 from braildesk.protocol.replies import Reader, Reply
 
 #: A write of so many bytes goes into a pipe whole or not at all. Short requests are written in
@@ -58,16 +60,16 @@ class Pipe:
     """The program of a session, with the pipes to it."""
 
     def __init__(
-        self, words: Sequence[str], while_waiting: Callable[[], None] = lambda: None
+        self,
+        words: Sequence[str],
+        book: BookFile,
+        while_waiting: Callable[[], None] = lambda: None,
     ) -> None:
         self._while_waiting = while_waiting
         #: The time until which the program is waited for; None if that has no end.
         self._until: float | None = None
         self._is_given_up = False
-        # in a group of its own, so that Ctrl-C at a terminal interrupts the client alone
-        self._process = Popen(
-            words, bufsize=0, stdin=PIPE, stdout=PIPE, stderr=PIPE, process_group=0
-        )
+        self._process = started(book, lambda: _begun(words))
         self._input = _unblocked(self._process.stdin)
         self._output = _unblocked(self._process.stdout)
         self._errors = _unblocked(self._process.stderr)
@@ -254,6 +256,13 @@ class Pipe:
             elif not self._is_closing:
                 self.reads += 1
                 self._reader.feed(data)
+
+
+def _begun(words: Sequence[str]) -> Popen[bytes]:
+    """A program in a group of its own, so that Ctrl-C at a terminal interrupts the client alone."""
+    return Popen(
+        words, bufsize=0, stdin=PIPE, stdout=PIPE, stderr=PIPE, process_group=0
+    )
 
 
 def _unblocked(stream: IO[bytes] | None) -> int:

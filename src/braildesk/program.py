@@ -7,12 +7,14 @@ import stat
 import subprocess
 from collections.abc import Callable, Iterable, Iterator
 from contextlib import contextmanager, nullcontext
+from dataclasses import replace
 from os import PathLike, fspath
 from pathlib import Path
 from subprocess import DEVNULL, PIPE, Popen
 from typing import TYPE_CHECKING
 
 from braildesk import opening
+from braildesk.fenced import started
 from braildesk.held import copy_held, fit_log, held
 from braildesk.named_files import read_file
 from braildesk.opening import changes_in, fault_in, goes_on, has_work, waited
@@ -314,7 +316,13 @@ def _fault_with_log(path: str, log: str, program: str) -> Why | None:
 def _is_book(path: Path, program: str) -> bool:
     """Whether the program finds a book in a file."""
     words = [program, "check", "--", str(path)]
-    return subprocess.run(words, capture_output=True).returncode == 0
+    # nothing was seen of its files yet, and the program may make a log
+    asked = NewBook(str(path))
+    with started(asked, lambda: Popen(words, stdout=DEVNULL, stderr=DEVNULL)) as check:
+        try:
+            return check.wait() == 0
+        finally:
+            check.kill()
 
 
 def unopened(status: int, errors: str, asked: AskedOfFile) -> DeskError:
@@ -430,10 +438,10 @@ def _begun(
     """The program at work, which is ended by a signal if its end isn't waited for."""
     found = find(program)
     judge(asked, found)
+    # what is asked may name another path than the program gets
+    given = replace(asked, path=words[words.index("--") + 1])
     try:
-        process = Popen(
-            [found, *words], stdin=source, stdout=PIPE, stderr=PIPE, pass_fds=shared
-        )
+        process = started(given, lambda: _piped([found, *words], source, shared))
     except OSError as error:
         raise cannot_run(found, error) from error
     with process:
@@ -441,6 +449,11 @@ def _begun(
             yield process
         finally:
             process.kill()
+
+
+def _piped(words: list[str], source: int, shared: tuple[int, ...]) -> Popen[bytes]:
+    """A program that is started, whose output and errors are read here."""
+    return Popen(words, stdin=source, stdout=PIPE, stderr=PIPE, pass_fds=shared)
 
 
 def _answered_by(

@@ -7,12 +7,17 @@ from pathlib import Path
 
 import pytest
 
+from braildesk import fenced
+
 from tool import WAIT_SECONDS
 
 # the numbers of nobody and nogroup, as on Debian
 STRANGER = 65_534
 NEEDS_ROOT = pytest.mark.skipif(
     os.geteuid() != 0, reason="only root can act as two persons"
+)
+NEEDS_FENCE = pytest.mark.skipif(
+    not fenced.is_known(), reason="the system can't keep a program to some files"
 )
 
 

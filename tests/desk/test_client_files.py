@@ -13,7 +13,8 @@ import sys
 import tempfile
 import time
 from collections.abc import Callable, Iterator
-from contextlib import closing, suppress
+from concurrent.futures import ThreadPoolExecutor
+from contextlib import closing, contextmanager, suppress
 from pathlib import Path
 from typing import Any, BinaryIO
 
@@ -32,6 +33,7 @@ from braildesk import (
     Session,
     Table,
     Why,
+    fenced,
     limits,
     opening,
     requests,
@@ -45,7 +47,14 @@ from braildesk.refusals import cannot_open
 from braildesk.snapshot import snapshot
 from braildesk.workshop import mode_of
 
-from strangers import NEEDS_ROOT, STRANGER, as_stranger, lead_to
+from strangers import (
+    NEEDS_FENCE,
+    NEEDS_ROOT,
+    STRANGER,
+    as_stranger,
+    in_time,
+    lead_to,
+)
 from tool import WAIT_SECONDS
 
 ROOT = Path(__file__).parents[2]
@@ -1153,12 +1162,14 @@ def test_a_log_is_there_as_its_book_is_before_the_program_opens_that(
     book.chmod(0o664)
     noting, noted = tmp_path / "noting", tmp_path / "noted"
     noting.write_text(
-        f"#!/bin/sh\nstat -c '%a %g %s' '{book}-wal' > '{noted}'\nexec '{braildesk.find()}' \"$@\"\n"
+        # where others may write, the program may write into no other file
+        f"#!/bin/sh\nln -s \"$(stat -c '%a %g %s' '{book}-wal')\" '{noted}'\n"
+        f"exec '{braildesk.find()}' \"$@\"\n"
     )
     noting.chmod(0o755)
     with Session(book, noting) as session:
         kill(session)
-    assert noted.read_text() == f"664 {book.stat().st_gid} 0\n"
+    assert os.readlink(noted) == f"664 {book.stat().st_gid} 0"
     assert braildesk.check(book) == 1
 
 
@@ -1402,6 +1413,110 @@ def test_no_empty_file_becomes_a_book_through_a_link_of_another_user(
         braildesk.new_book(link)
     assert empty.read_bytes() == b""
     braildesk.new_book(empty)
+
+
+@contextmanager
+def swapped(folder: Path, name: Callable[[], Path], to: Path) -> Iterator[Path]:
+    """A program in whose place another user first has a name lead elsewhere, once it is begun."""
+    queue, program = folder / "queue", folder / "program"
+    os.mkfifo(queue)
+    queue.chmod(0o666)
+    program.write_text(f'#!/bin/sh\ncat "{queue}"\nexec "{braildesk.find()}" "$@"\n')
+    program.chmod(0o755)
+
+    def swap() -> None:
+        in_time()
+        with queue.open("wb"):
+            path = name()
+            path.rename(f"{path}-kept")
+            path.symlink_to(to)
+
+    with ThreadPoolExecutor() as threads:
+        swapping = threads.submit(as_stranger, swap)
+        yield program
+        assert swapping.result() == ""
+    queue.unlink()
+
+
+@NEEDS_ROOT
+@NEEDS_FENCE
+@pytest.mark.parametrize("way", ["the book", "its folder", "a link to it"])
+def test_a_link_put_in_place_of_a_book_that_is_opened_leads_the_program_nowhere(
+    book: Path, tmp_path: Path, way: str
+) -> None:
+    shared, private = tmp_path / "shared", tmp_path / "private"
+    for folder in (shared, private):
+        folder.mkdir()
+    shared.chmod(0o777)
+    lead_to(shared)
+    other = private / "book"
+    other.touch()
+    path, name, to = shared / "book", shared / "book", other
+    match way:
+        case "the book":
+            shutil.move(book, path)
+        case "its folder":
+            name, to = shared / "folder", private
+            name.mkdir()
+            path = Path(shutil.move(book, name / "book"))
+        case "a link to it":
+            path.symlink_to(book)
+    deeds: tuple[Callable[[Path], object], ...] = (
+        lambda program: Session(path, program),
+        lambda program: braildesk.check(path, program),
+        lambda program: braildesk.export(path, 1, program=program),
+    )
+    for deed in deeds:
+        with swapped(tmp_path, lambda: name, to) as program:
+            with pytest.raises(Refused) as refused:
+                deed(program)
+        assert str(path) in refused.value.sentence
+        assert other.read_bytes() == b"" and names(private) == {"book"}
+        name.unlink()
+        name.with_name(f"{name.name}-kept").rename(name)
+    with Session(path) as session:
+        session.add_paragraph("end", "en", "as before")
+    assert braildesk.check(path) == 2
+
+
+@NEEDS_ROOT
+@NEEDS_FENCE
+def test_a_folder_put_in_place_of_the_one_of_a_copy_leads_the_program_nowhere(
+    book: Path, tmp_path: Path
+) -> None:
+    shared, other = tmp_path / "shared", tmp_path / "other"
+    for folder in (shared, other):
+        folder.mkdir()
+    shared.chmod(0o777)
+    lead_to(shared)
+    (other / "book").touch()
+    with swapped(tmp_path, lambda: next(shared.glob(".b*")), other) as program:
+        with pytest.raises(DeskError) as failed:
+            braildesk.copy(book, shared / "copy", program=program)
+    assert failed.value.sentence.endswith(
+        "another program put something else in the place of what was made."
+    )
+    assert (other / "book").read_bytes() == b"" and names(other) == {"book"}
+    assert not (shared / "copy").exists()
+
+
+@NEEDS_FENCE
+def test_what_is_begun_where_others_may_write_is_ended_by_ctrl_c(
+    book: Path, tmp_path: Path
+) -> None:
+    tmp_path.chmod(0o777)
+    begun: list[subprocess.Popen[bytes]] = []
+
+    def begin() -> subprocess.Popen[bytes]:
+        begun.append(subprocess.Popen(["sleep", "99"]))
+        os.kill(os.getpid(), signal.SIGINT)
+        return begun[0]
+
+    with pytest.raises(KeyboardInterrupt):
+        fenced.started(BookFile(str(book)), begin)
+    while not begun:
+        pass
+    assert begun[0].wait() == -signal.SIGKILL
 
 
 @pytest.mark.parametrize("is_empty", [True, False])
@@ -2197,6 +2312,8 @@ def test_a_file_of_no_bytes_is_no_book_and_stays_as_it_is(tmp_path: Path) -> Non
     for ask in asks:
         with pytest.raises(NotABook):
             ask()
+    # to which a link of another user may lead by now
+    fit_log(BookFile(str(empty)))
     assert (empty.stat().st_size, names(tmp_path)) == (0, {"notes.txt"})
     braildesk.new_book(empty)
     assert braildesk.check(empty) == 0
