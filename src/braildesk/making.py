@@ -32,7 +32,6 @@ from braildesk.workshop import (
     MayNotLast,
     OthersLink,
     Place,
-    Swapped,
     copy_bytes,
     create,
     give_access,
@@ -146,8 +145,7 @@ def _make(
             copy_bytes(whole.fileno(), file.fileno())
             os.fsync(file.fileno())
             written = os.fstat(file.fileno())
-        open_made(made, written).close()
-        put(made, place)
+        put(made, place, written)
 
 
 def _fill(
@@ -167,7 +165,7 @@ def _fill(
         begun = stack.enter_context(_temporary())
         _judge_log(asked.path, NotMade, "new book")
         _begin(begun, NewBook(fspath(begun)), program, holding)
-        _judge_place(place, file)
+        place.judge(file.fileno())
         with open(begun, "rb") as whole:
             try:
                 copy_bytes(whole.fileno(), file.fileno())
@@ -301,8 +299,7 @@ def _copied(
             with made_beside(target.path) as made:
                 copied = copy_held(source, log_path(book.path), made)
                 version = _checked(made, copied, book, named, program)
-                _finish(source, made, copied)
-                _put(made, target)
+                _put(made, target, _finish(source, made, copied))
     except FileIsThere:
         if replaces is None:
             raise
@@ -353,7 +350,7 @@ def _claimed(
                 f"“{named}” is no book, and was left as it is. Take another path for the copy."
             )
         place = stack.enter_context(place_of(path))
-        _judge_place(place, older)
+        place.judge(older.fileno())
         yield _Target(named, path, place, older)
 
 
@@ -366,12 +363,6 @@ def _followed(named: str, kind: type[NotMade], done: str) -> str:
             f"The link “{found.link}” is another user's, and no book is {done} through it. Take the"
             " path to which it leads, if that is what you mean, or another one."
         ) from None
-
-
-def _judge_place(place: Place, older: BinaryIO) -> None:
-    """Whether the file that is held has its place still, by whatever is put there meanwhile."""
-    if not place.has(older):
-        raise Swapped
 
 
 def _taken(named: str) -> FileIsThere:
@@ -440,23 +431,24 @@ def _not_written(named: str, why: str) -> Failed:
     return Failed(f"The copy “{named}” could not be written: {why.rstrip('.')}.")
 
 
-def _finish(source: BinaryIO, made: Path, copied: os.stat_result) -> None:
-    """Gives a whole copy what the book's file has beside its contents."""
+def _finish(source: BinaryIO, made: Path, copied: os.stat_result) -> os.stat_result:
+    """Gives a whole copy what the book's file has beside its contents, and says what it is then."""
     with open_made(made, copied) as file:
         give_access(file.fileno(), source.fileno())
         os.fsync(file.fileno())
+        return os.fstat(file.fileno())
 
 
-def _put(made: Path, target: _Target) -> None:
+def _put(made: Path, target: _Target, copied: os.stat_result) -> None:
     """Gives a whole copy its path, if nothing of an older book is left beside it."""
     try:
         if target.older is not None:
             _empty_log(target, target.older)
-            _judge_place(target.place, target.older)
-            put_over(made, target.place)
+            target.place.judge(target.older.fileno())
+            put_over(made, target.place, copied)
         else:
             _judge_log(target.named, NotCopied, "copy")
-            put(made, target.place)
+            put(made, target.place, copied)
     except FileExistsError:
         raise _taken(target.named) from None
     except MayNotLast as failed:

@@ -24,7 +24,6 @@ from braildesk.workshop import (
     give_access,
     made_beside,
     made_for_a_while,
-    open_made,
     place_of,
     put,
 )
@@ -300,8 +299,7 @@ class OpenFile:
                     saved = os.fstat(written.fileno())
                 if _version(made, program) < version:
                     raise Failed("The program did not write all of it to its file.")
-                open_made(made, saved).close()
-                return _put_beside(made, self.path)
+                return _put_beside(made, self.path, saved)
         except OSError as error:
             raise Failed(f"{error.strerror or error}.") from error
 
@@ -313,7 +311,8 @@ class OpenFile:
                 with create(made) as written:
                     written.write(text.encode())
                     give_access(written.fileno(), self._descriptor)
-                return _put_beside(made, self.path, ".txt")
+                    saved = os.fstat(written.fileno())
+                return _put_beside(made, self.path, saved, ".txt")
         except OSError as error:
             raise Failed(f"{error.strerror or error}.") from error
 
@@ -324,7 +323,9 @@ class OpenFile:
         """
         log = f"{self.path}-wal"
         try:
-            return _put_beside(Path(log), self.path, ".log") if has_work(log) else ""
+            if not has_work(log):
+                return ""
+            return _put_beside(Path(log), self.path, os.lstat(log), ".log")
         except OSError:
             return ""
 
@@ -442,7 +443,7 @@ def _version(made: Path, program: StrPath | None) -> int:
         raise Failed("What was written there can't be opened.") from failed
 
 
-def _put_beside(made: Path, path: str, ending: str = "") -> str:
+def _put_beside(made: Path, path: str, like: os.stat_result, ending: str = "") -> str:
     """Puts a file beside a path, under a name that nothing has."""
     number = 1
     with place_of(path) as place:
@@ -450,7 +451,7 @@ def _put_beside(made: Path, path: str, ending: str = "") -> str:
             saved = f"-saved-{number}{ending}"
             try:
                 if not os.path.lexists(f"{path}{saved}-wal"):
-                    put(made, place.beside(saved))
+                    put(made, place.beside(saved), like)
                     return path + saved
             except MayNotLast:
                 # it is there, and nothing that is said of it speaks of a loss of power

@@ -87,13 +87,18 @@ class Place(Value):
         except FileNotFoundError:
             return 0
 
-    def has(self, file: BinaryIO) -> bool:
-        """Whether it is the place of this file, and not of a link to it."""
+    def has(self, file: int) -> bool:
+        """Whether it is the place of the file of this descriptor, and not of a link to it."""
         try:
             found = os.stat(self.name, dir_fd=self.folder, follow_symlinks=False)
         except FileNotFoundError:
             return False
-        return os.path.samestat(found, os.fstat(file.fileno()))
+        return os.path.samestat(found, os.fstat(file))
+
+    def judge(self, file: int) -> None:
+        """Raises ``Swapped`` unless it is the place of that file."""
+        if not self.has(file):
+            raise Swapped
 
     def opened(self, flags: int) -> BinaryIO:
         """The file, never through a link, nor waiting for a pipe that was put there."""
@@ -185,29 +190,45 @@ def open_made(made: Path, like: os.stat_result) -> BinaryIO:
         file = open(os.open(made, flags), "rb")
     except OSError as error:
         raise Swapped from error
-    if not os.path.samestat(os.fstat(file.fileno()), like):
+    if not is_same(os.fstat(file.fileno()), like):
         file.close()
         raise Swapped
     return file
 
 
-def put(made: Path, target: Place) -> None:
-    """Gives a file its name, which nothing may have yet (``FileExistsError``)."""
-    with _folder_of(made) as folder:
+def is_same(found: os.stat_result, like: os.stat_result) -> bool:
+    """Whether a file is one that was closed meanwhile.
+
+    Another user who took that away may have made one of the same number.
+    """
+    return os.path.samestat(found, like) and found.st_uid == like.st_uid
+
+
+def put(made: Path, target: Place, like: os.stat_result) -> None:
+    """Gives a file its name, which nothing may have yet (``FileExistsError``).
+
+    ``Swapped`` if another file than that which is like this gets the name, or has it right after.
+    """
+    with _folder_of(made) as folder, _known(folder, made.name, like) as file:
         try:
             _rename(folder, made.name, target)
+            target.judge(file)
         except OSError as error:
             if error.errno not in _NOT_KNOWN:
                 raise
+            # by its two names a file system of FUSE may have it for two files
             _link(folder, made.name, target)
     _sync_folder(target)
 
 
-def put_over(made: Path, target: Place) -> None:
-    """Gives a file the name of another, which is no more then, nor is the log beside it."""
+def put_over(made: Path, target: Place, like: os.stat_result) -> None:
+    """Gives a file the name of another, which is no more then, nor is the log beside it.
+
+    ``Swapped`` as for ``put``.
+    """
     log, aside = target.beside("-wal").name, f"{made.name}-wal"
     is_aside = True
-    with _folder_of(made) as folder:
+    with _folder_of(made) as folder, _known(folder, made.name, like) as file:
         try:
             # it belongs to the older file, and would damage the new one
             os.replace(log, aside, src_dir_fd=target.folder, dst_dir_fd=folder)
@@ -221,6 +242,7 @@ def put_over(made: Path, target: Place) -> None:
             if is_aside:
                 os.replace(aside, log, src_dir_fd=folder, dst_dir_fd=target.folder)
             raise
+        target.judge(file)
     _sync_folder(target)
 
 
@@ -339,6 +361,26 @@ def copy_bytes(source: int, target: int) -> None:
 
 
 @contextmanager
+def _known(folder: int, name: str, like: os.stat_result) -> Iterator[int]:
+    """What a file that was made is known by, also once it has another name.
+
+    ``Swapped`` if another one is at its place. It isn't opened, which might keep it from getting
+    that name.
+    """
+    flags = os.O_PATH | os.O_NOFOLLOW | os.O_CLOEXEC
+    try:
+        file = os.open(name, flags, dir_fd=folder)
+    except FileNotFoundError as error:
+        raise Swapped from error
+    try:
+        if not is_same(os.fstat(file), like):
+            raise Swapped
+        yield file
+    finally:
+        os.close(file)
+
+
+@contextmanager
 def _folder_of(made: Path) -> Iterator[int]:
     """The folder in which a file is made; ``Swapped`` if a link is in its place.
 
@@ -453,12 +495,12 @@ def _rename_over_empty(folder: int, name: str, target: Place) -> None:
     with open(os.open(target.name, flags, 0o600, dir_fd=target.folder), "r+b") as empty:
         is_own = _is_kept_empty(empty)
         try:
-            if not (is_own and target.has(empty)):
+            if not (is_own and target.has(empty.fileno())):
                 raise FileExistsError(errno.EEXIST, os.strerror(errno.EEXIST))
             names = name, target.name
             os.replace(*names, src_dir_fd=folder, dst_dir_fd=target.folder)
         except BaseException:
-            if is_own and target.has(empty):
+            if is_own and target.has(empty.fileno()):
                 os.unlink(target.name, dir_fd=target.folder)
             raise
 

@@ -9,14 +9,16 @@ from pathlib import Path
 import pytest
 
 from braildesk import Session
+from braildesk.desk.export import Files, NotWritten
 from braildesk.desk.whole_file import (
     Access,
     AnotherIsThere,
     NoPlaceForAFile,
     write_whole,
 )
-from braildesk.workshop import MayNotLast
+from braildesk.workshop import MayNotLast, Swapped
 
+from scribe.words.export import not_written
 from scribe.words.status import left_there, may_not_last
 from strangers import NEEDS_ROOT, STRANGER, as_stranger, lead_to
 from tool import scribe
@@ -301,6 +303,37 @@ def test_a_file_that_can_not_be_read_may_be_a_book_and_is_not_replaced(
 
     assert as_stranger(write) == ""
     assert book.read_bytes() == b"SQLite format 3\0 of another person"
+
+
+@NEEDS_ROOT
+@pytest.mark.parametrize("is_before", [True, False])
+def test_what_another_user_puts_in_place_of_a_written_file_is_not_taken_for_it(
+    tmp_path: Path, monkeypatch: pytest.MonkeyPatch, is_before: bool
+) -> None:
+    tmp_path.chmod(0o777)
+    lead_to(tmp_path)
+    replace = os.replace
+
+    def swap(name: str) -> None:
+        (tmp_path / name).unlink()
+        (tmp_path / name).symlink_to("elsewhere")
+
+    def replaced(source: str, target: str, **folders: int) -> None:
+        if is_before:
+            assert as_stranger(lambda: swap(source)) == ""
+        replace(source, target, **folders)
+        if not is_before:
+            assert as_stranger(lambda: swap(target)) == ""
+
+    monkeypatch.setattr(os, "replace", replaced)
+    with pytest.raises(Swapped) as swapped:
+        write_whole(tmp_path / "moon-1.brf", b"pages")
+    assert os.listdir(tmp_path) == ["moon-1.brf"]
+    fault = NotWritten(1, Path("moon-1.brf"), swapped.value, True, Files((), (), ()))
+    assert not_written(fault) == (
+        "Volume 1 could not be written: another program put something else in the place of what was"
+        " made. moon-1.brf isn't what was exported."
+    )
 
 
 def test_an_empty_file_is_replaced_and_a_link_and_a_pipe_are_named_and_left(

@@ -13,7 +13,14 @@ from pathlib import Path
 from braildesk.desk import Problem
 from braildesk.opening import LOGS, MAGIC
 from braildesk.protocol.value import Value
-from braildesk.workshop import gives_lists, limit_group, mode_of, sync_names
+from braildesk.workshop import (
+    Swapped,
+    gives_lists,
+    is_same,
+    limit_group,
+    mode_of,
+    sync_names,
+)
 
 ANYONE = 0o666
 _OF_THE_SYSTEM = ("/dev/", "/proc/")
@@ -71,11 +78,12 @@ def write_whole(
 
     They are written beside it, in a file whose name begins with a full stop, and are on the disk
     when that file gets the name. If anything fails before that, what had the name is as it was;
-    `MayNotLast` comes after it. The name alone is replaced: a link there is gone and the file that
-    it led to stays as it was, and a pipe of that name isn't opened. A file of one's own keeps its
-    permissions to read and write. Any other gets what is said here and the umask allows. A book or a
-    log is never replaced, nor, with `AnotherIsThere`, what may not be by its front, if that is asked, unless
-    it is an empty file, as `mktemp` makes one.
+    `MayNotLast` comes after it, and so does `Swapped`, if another file has the name then. The name
+    alone is replaced: a link there is gone and the file that it led to stays as it was, and a pipe
+    of that name isn't opened. A file of one's own keeps its permissions to read and write. Any other
+    gets what is said here and the umask allows. A book or a log is never replaced, nor, with
+    `AnotherIsThere`, what may not be by its front, if that is asked, unless it is an empty file, as
+    `mktemp` makes one.
     """
     path = path if path.name else path.resolve()
     folder = os.open(path.parent, os.O_RDONLY | os.O_DIRECTORY | os.O_CLOEXEC)
@@ -111,11 +119,13 @@ def replace_in(
     """
     beside = f".scribe-{os.urandom(8).hex()}"
     try:
-        _write(beside, folder, data, access, kept)
+        written = _write(beside, folder, data, access, kept)
         os.replace(beside, name, src_dir_fd=folder, dst_dir_fd=folder)
     except BaseException:
         remove_from(folder, beside)
         raise
+    if not _is_there(name, folder, written, data):
+        raise Swapped
     sync_names(folder)
 
 
@@ -186,9 +196,22 @@ def _is_device(name: str, folder: int, mode: int) -> bool:
     return os.readlink(name, dir_fd=folder).startswith(_OF_THE_SYSTEM)
 
 
+def _is_there(name: str, folder: int, written: os.stat_result, data: bytes) -> bool:
+    """Whether a name has what was written, also where the file has another number by its name."""
+    try:
+        found = os.stat(name, dir_fd=folder, follow_symlinks=False)
+        if is_same(found, written):
+            return True
+        head = _head(name, folder)
+    except OSError:
+        return False
+    return found.st_size == len(data) and data.startswith(head) and head != b""
+
+
 def _write(
     name: str, folder: int, data: bytes, access: Access, kept: int | None
-) -> None:
+) -> os.stat_result:
+    """Makes a file with these bytes, on the disk, and says what it is."""
     flags = os.O_WRONLY | os.O_CREAT | os.O_EXCL | os.O_NOFOLLOW | os.O_CLOEXEC
     created = access.mode if kept is None else 0o600
     if kept is None and gives_lists(folder):
@@ -203,6 +226,7 @@ def _write(
         file.write(data)
         file.flush()
         os.fsync(file.fileno())
+        return os.fstat(file.fileno())
 
 
 def _take_group(file: int, folder: int, mode: int, group: int) -> None:

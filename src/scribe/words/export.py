@@ -17,7 +17,7 @@ from braildesk.desk.export import (
     export_pages,
 )
 from braildesk.desk.ranges import NoPage, PageRange
-from braildesk.workshop import MayNotLast
+from braildesk.workshop import MayNotLast, Swapped
 
 from scribe.words.console import Console
 from scribe.words.paragraph import counted
@@ -137,6 +137,8 @@ def not_written(fault: NotWritten) -> str:
         files = replace(fault.files, new=(*fault.files.new, fault.volume))
         return may_not_last(fault.file, fault.cause) + _files(files)
     left = "is as it was" if fault.is_there else "was not made"
+    if isinstance(fault.cause, Swapped):
+        left = "isn't what was exported"
     return (
         f"Volume {fault.volume} could not be written: {fault.cause.strerror}. {fault.file}"
         f" {left}.{_files(fault.files)}"
