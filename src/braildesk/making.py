@@ -35,6 +35,7 @@ from braildesk.workshop import (
     copy_bytes,
     create,
     give_access,
+    give_list,
     made_beside,
     made_for_a_while,
     open_made,
@@ -151,10 +152,10 @@ def _make(
 def _fill(
     asked: NewBook, path: str, program: StrPath | None, holding: Sequence[Command[Any]]
 ) -> bool:
-    """Makes a book in an empty file, and says whether it was one; an empty book stays as it is.
+    """Puts a book in the place of an empty file, and says whether it was one.
 
-    The program makes and judges another file: a link that is put in the place of this one would lead
-    it to any of this user.
+    An empty book stays as it is. The program makes and judges another file: a link that is put in the
+    place of this one would lead it to any of this user.
     """
     with held(BookFile(asked.path), os.O_RDWR) as file, ExitStack() as stack:
         place = stack.enter_context(place_of(path))
@@ -165,14 +166,15 @@ def _fill(
         begun = stack.enter_context(_temporary())
         _judge_log(asked.path, NotMade, "new book")
         _begin(begun, NewBook(fspath(begun)), program, holding)
+        made = stack.enter_context(made_beside(path))
+        with open(begun, "rb") as whole, create(made) as written:
+            copy_bytes(whole.fileno(), written.fileno())
+            give_list(written.fileno(), file.fileno())
+            give_access(written.fileno(), file.fileno())
+            os.fsync(written.fileno())
+            like = os.fstat(written.fileno())
         place.judge(file.fileno())
-        with open(begun, "rb") as whole:
-            try:
-                copy_bytes(whole.fileno(), file.fileno())
-                os.fsync(file.fileno())
-            except OSError:
-                os.ftruncate(file.fileno(), 0)
-                raise
+        put_over(made, place, like)
     return True
 
 

@@ -35,6 +35,7 @@ from braildesk import (
     Why,
     fenced,
     limits,
+    making,
     opening,
     requests,
     workshop,
@@ -1537,6 +1538,25 @@ def test_a_link_put_in_place_of_a_file_leads_a_new_book_to_no_other(
     with pytest.raises(Failed if is_empty else CannotOpen):
         braildesk.new_book(place)
     assert (names(tmp_path), other.read_bytes()) == ({"place", "other"}, b"")
+
+
+def test_a_new_book_that_is_stopped_while_it_is_written_leaves_an_empty_file_empty(
+    tmp_path: Path, monkeypatch: pytest.MonkeyPatch
+) -> None:
+    place = tmp_path / "place"
+    place.touch(0o640)
+
+    def stopped(source: int, target: int) -> None:
+        os.write(target, os.read(source, 99))
+        os.kill(os.getpid(), signal.SIGKILL)
+
+    if (child := os.fork()) == 0:
+        monkeypatch.setattr(making, "copy_bytes", stopped)
+        braildesk.new_book(place)
+    assert os.waitpid(child, 0)[1] == signal.SIGKILL
+    assert place.read_bytes() == b""
+    braildesk.new_book(place)
+    assert (names(tmp_path), mode_of(place, place.stat())) == ({"place"}, 0o640)
 
 
 @pytest.mark.parametrize("ending", ["-wal", "-shm", "-journal"])
