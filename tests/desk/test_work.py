@@ -27,10 +27,10 @@ WORDS = "far away"
 #: How many of our modules are imported, and how many in all, at most.
 MODULES = {
     "--help": (20, 101),
-    "show": (57, 153),
-    "marks": (54, 151),
-    "find": (55, 152),
-    "import": (70, 177),
+    "show": (58, 154),
+    "marks": (55, 152),
+    "find": (56, 153),
+    "import": (72, 179),
 }
 #: Modules that take as long as all of a short command, and are needed by few.
 DEAR = {
