@@ -202,8 +202,14 @@ def test_a_report_leaves_the_log_of_another_book(book: Path) -> None:
 
 @pytest.mark.parametrize(
     "text, pairs",
-    [("*One* two.\n", None), ("One two.\n", "two\ttoo\n"), ("One two.\n", None)],
-    ids=["document", "pairs", "text"],
+    [
+        ("*One* two.\n", None),
+        ("# One\n", None),
+        ("# One\n\nTwo.\n", None),
+        ("One two.\n", "two\ttoo\n"),
+        ("One two.\n", None),
+    ],
+    ids=["document", "heading", "one heading", "pairs", "text"],
 )
 def test_a_report_replaces_an_empty_file_and_an_older_report(
     book: Path, text: str, pairs: str | None
@@ -213,7 +219,7 @@ def test_a_report_replaces_an_empty_file_and_an_older_report(
     if pairs is not None:
         Path("pairs.tsv").write_text(pairs)
         words += ["--replace", "pairs.tsv"]
-    name = "text.md" if text.startswith("*") else "text.txt"
+    name = "text.md" if text.startswith(("*", "#")) else "text.txt"
     Path(name).write_text(text)
     for _ in range(2):
         assert scribe("import", book, name, *words, folder=book.parent).status == 0

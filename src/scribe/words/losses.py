@@ -15,7 +15,7 @@ from braildesk.text.characters import visible
 FEW = 5
 #: What a report begins with, of a document and of a text, by what is written below.
 _REPORT = re.compile(
-    r"[^\n]+ is read as [^\n]+: [\d,]+ paragraphs?, [^\n]*headings\.\n"
+    r"[^\n]+ is read as [^\n]+: [\d,]+ paragraphs?, [^\n]*headings?\.\n"
     r"|“[^\n]+” (is replaced by|is left out|stands nowhere)[^\n]*\.\n"
     r"|[^\n]+ is a text\.\n\Z"
 )
