@@ -449,6 +449,8 @@ def _clear_left(folder: str) -> None:
 def _remove(descriptor: int, folder: str) -> None:
     """Removes a folder that has no other files than are made here."""
     with suppress(OSError):
+        # btrfs shows who reads on no file that was made since the folder was opened
+        os.lseek(descriptor, 0, os.SEEK_SET)
         names = os.listdir(descriptor)
         if _NAMES.issuperset(names):
             for name in names:

@@ -902,6 +902,22 @@ def test_what_a_killed_copy_left_is_cleared_away_by_the_next_one(
     assert names(mine) == {"book", "notes"}
 
 
+def test_nothing_is_left_beside_a_copy_where_who_reads_a_folder_on_is_shown_no_new_file(
+    book: Path, tmp_path: Path, monkeypatch: pytest.MonkeyPatch
+) -> None:
+    own_folder = workshop._own_folder
+
+    def read_already(parent: str) -> tuple[int, str]:
+        descriptor, folder = own_folder(parent)
+        # so btrfs has it from the opening on
+        os.lseek(descriptor, sys.maxsize, os.SEEK_SET)
+        return descriptor, folder
+
+    monkeypatch.setattr(workshop, "_own_folder", read_already)
+    assert braildesk.copy(book, tmp_path / "copied") == 1
+    assert names(tmp_path) == {book.name, "copied"}
+
+
 def test_a_copy_that_is_being_made_is_not_cleared_away(
     book: Path, tmp_path: Path, monkeypatch: pytest.MonkeyPatch
 ) -> None:
