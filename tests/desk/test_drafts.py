@@ -569,6 +569,14 @@ def test_what_another_user_put_in_place_of_the_folder_of_drafts_is_not_used(
     assert not_kept(told.value) == (
         f"What is typed can't be kept in {shared.parent}/braildesk: {why}."
     )
+    # no file is there, of which it could be said whose it is
+    unread = []
+    for read in (Drafts(moon).imports, Drafts(moon).replacements):
+        try:
+            read()
+        except NotKept as fault:
+            unread.append(not_kept(fault))
+    assert set(unread) <= {f"{shared.parent}/braildesk can't be read: {why}."}
 
 
 @NEEDS_ROOT

@@ -571,6 +571,18 @@ def test_an_import_is_done_where_it_can_not_be_noted(
         0,
         f"How far the import comes can't be kept in {book}/braildesk: Not a directory.\n",
     )
+    # so also where notes can't even be looked for
+    home = book.with_name("home")
+    (home / "braildesk").mkdir(parents=True)
+    name = Drafts(book).place.name.replace("unsent", "imports")
+    (home / "braildesk" / name).symlink_to("none")
+    monkeypatch.setenv("XDG_STATE_HOME", str(home))
+    found = put(book, TEXT, "--again")
+    assert (found.status, found.said) == (
+        0,
+        f"{home}/braildesk/{name} can't be read: it is a link.\n"
+        f"How far the import comes can't be kept in {home}/braildesk: it is a link.\n",
+    )
 
 
 def test_what_is_in_the_way_of_noting_an_import_is_said_once(

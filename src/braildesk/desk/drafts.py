@@ -22,6 +22,7 @@ from braildesk.desk.import_note import ImportNote, Pairs, note_in, pairs_in, val
 from braildesk.desk.own_folder import (
     MOST_BYTES,
     IsFolder,
+    OthersFolder,
     OwnFolder,
     Unfit,
     bytes_of,
@@ -89,7 +90,7 @@ class NotTaken(NotKept):
 
 
 class NotRead(NotKept):
-    """What was kept in a file can't be read by its cause."""
+    """What was kept in a file, or in the folder of another user, can't be read by its cause."""
 
     def __init__(self, path: Path, cause: OSError) -> None:
         super().__init__(path, cause)
@@ -294,7 +295,13 @@ class Drafts:
 
     def begin_import(self, note: ImportNote) -> None:
         """Notes an import before its first paragraph is typed, in place of others of its text."""
-        others = (each for each in self.imports() if not each.is_of(note))
+        try:
+            noted = self.imports()
+        except NotRead as fault:
+            # whoever reads that alone doesn't know that the import isn't noted
+            place = self._folder.path
+            raise NotSaved(Begun.IMPORTS, place, fault.cause, False) from fault
+        others = (each for each in noted if not each.is_of(note))
         self._note((note, *others))
 
     def end_import(self, note: ImportNote) -> None:
@@ -457,6 +464,9 @@ class Drafts:
             return None if data is None else taken(Record.of(data))
         except (NotSuch, IsFolder) as cause:
             raise NotAsKept(path, self._set_aside(path)) from cause
+        except OthersFolder as cause:
+            # whether the file is there isn't looked for
+            raise NotRead(path.parent, cause) from cause
         except OSError as cause:
             raise NotRead(path, cause) from cause
 

@@ -35,6 +35,10 @@ class IsFolder(Unfit):
     """What is there is a folder."""
 
 
+class OthersFolder(Unfit):
+    """The folder itself is another user's."""
+
+
 class OwnFolder:
     """The folder of a path, which is made with the first file."""
 
@@ -102,7 +106,7 @@ class OwnFolder:
         try:
             found = os.fstat(folder)
             if found.st_uid != os.geteuid():
-                raise Unfit("it belongs to another user")
+                raise OthersFolder("it belongs to another user")
             if stat.S_IMODE(found.st_mode) & 0o077:
                 os.fchmod(folder, 0o700)
             yield folder
