@@ -233,8 +233,8 @@ def test_a_disk_that_can_only_be_read_is_said(
         assert (found.status, found.shown) == (3, "")
         # talk says it in lines of a width
         assert " ".join(found.said.split()) == (
-            f"“{file}” is on a disk that can only be read, and a book is opened where it can be"
-            " written. Nothing was changed. Copy the book to another disk."
+            f"The disk of “{file}” can only be read, and a book is opened where it can be written."
+            " Nothing was changed. Go on with a copy, or a new book, on another disk."
         )
 
 

@@ -172,8 +172,8 @@ UNOPENED = MappingProxyType(
         " the folder and an administrator. {nothing} If you know that the work is yours, ask an"
         " administrator to make {log} yours, and open the book again. If you don't, ask for it to be"
         " moved away, and go on without it.",
-        Why.READ_ONLY: "{path} is on a disk that can only be read, and a book is opened where it can"
-        " be written. {nothing} Copy the book to another disk.",
+        Why.READ_ONLY: "The disk of {path} can only be read, and a book is opened where it can be"
+        " written. {nothing} Go on with a copy, or a new book, on another disk.",
         Why.NO_ROOM: "There is no room on the disk of {path}. {nothing} Make room there,"
         " and try again.",
         Why.OVER_QUOTA: "What you may use of the disk of {path} is used up (a quota). {nothing}"
