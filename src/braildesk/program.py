@@ -352,7 +352,8 @@ def _failure(status: int, errors: str, asked: AskedOfFile) -> str:
     if status < 0:
         more = " Set a higher one, and try again." if -status in ENDED_BY else ""
         return f"braildesk was ended by {of_signal(-status)} before it was done.{more}"
-    return f"braildesk ended with status {status}: {errors.strip()}"
+    said = f": {errors.strip()}" if errors.strip() else "."
+    return f"braildesk ended with status {status}{said}"
 
 
 def _table_asked(table: "StrPath | Table") -> TableFile:

@@ -113,9 +113,10 @@ def test_a_program_that_answers_something_else_is_not_taken_for_braildesk(
             " of that name, or of another version. Let BRAILDESK name the one that belongs to this"
             " scribe."
         )
-    with pytest.raises(Failed) as caught:
-        Session(tmp_path, program=made(tmp_path / "program", "echo Sorry >&2; exit 4"))
-    assert caught.value.sentence == "braildesk ended with status 4: Sorry"
+    for does, said in (("echo Sorry >&2; exit 4", "4: Sorry"), ("exit 5", "5.")):
+        with pytest.raises(Failed) as caught:
+            Session(tmp_path, program=made(tmp_path / "program", does))
+        assert caught.value.sentence == f"braildesk ended with status {said}"
 
 
 def test_a_new_book_is_empty_and_may_be_made_again(tmp_path: Path) -> None:
