@@ -314,6 +314,10 @@ def test_what_cant_be_kept_is_there_until_the_end(moon: Path, sit: Sit) -> None:
     assert sat.state.typed is None
     sat.press("U", "y")
     assert sat.state.typed and sat.state.typed.text == "It rose."
+    # what is in the book isn't said to be kept nowhere
+    sat.press("enter", "escape")
+    assert sat.state.kept == "kept: paragraph 4"
+    assert sat.desk.unkept == ()
     folder.unlink()
 
 

@@ -57,6 +57,23 @@ def test_a_text_that_can_be_kept_nowhere_is_said_to_be_lost_with_the_window(
     desk.window.print.setPlainText("The Moon")
 
 
+def test_what_is_given_up_and_can_be_kept_nowhere_is_typed_further(
+    desk: Desk, monkeypatch: pytest.MonkeyPatch, tmp_path: Path
+) -> None:
+    monkeypatch.setattr(dialogs, "one_of", lambda _, t, a, names, f: names[0])
+    _without_folder(tmp_path)
+    desk.act("new_after")
+    desk.window.print.insertPlainText("It rose.")
+    desk.act("give_up")
+    assert desk.window.message.text.endswith("It is here only until scribe ends.")
+    desk.act("bring_back")
+    assert desk.new is not None and desk.window.print.text == "It rose."
+    assert "What is typed can't be kept in" in desk.window.message.text
+    desk.act("keep")
+    assert "It rose." in prints_of(desk)
+    assert desk.unsent.unkept == ()
+
+
 @pytest.mark.parametrize("is_slow", [False, True])
 def test_what_is_refused_is_said_also_where_what_is_typed_can_be_kept_nowhere(
     desk: Desk,

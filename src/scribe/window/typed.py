@@ -20,7 +20,7 @@ from scribe.window.book import Done, NotAll, NothingToTakeBack, ChosenParagraph
 from scribe.window.desk import CLOSED, Desk, New
 from scribe.window.dialogs import IsStopped, Say
 from scribe.window.fields import MOST_OF_ONE
-from scribe.words.drafts import what_for
+from scribe.words.drafts import not_kept, what_for
 from scribe.words.paragraph import part_of, quoted
 from scribe.words.status import Interrupted, Stop
 
@@ -146,7 +146,11 @@ class Typed:
         name = dialogs.one_of(desk.window, "Bring back a text", asked, names, 0)
         if name is not None:
             draft = texts[names.index(name)]
-            desk.aside.result(lambda: desk.unsent.take_up(draft, draft.text), False)
+            try:
+                desk.aside.result(lambda: desk.unsent.take_up(draft, draft.text), False)
+            except NotKept as fault:
+                # it is typed further, as anything is that can't be kept meanwhile
+                desk.say(not_kept(fault))
             self.type_further(draft)
 
     def type_further(self, draft: Draft) -> None:

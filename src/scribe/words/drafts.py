@@ -268,9 +268,10 @@ class Unsent:
     def take_up(self, draft: Draft, text: str) -> None:
         """Has a text be typed further, which was given up or left for later; may raise `NotKept`."""
         self._forget(text)
-        self.keep(draft)
+        # it isn't given up any more, whether or not it can be kept while it is typed
         self._here = [each for each in self._here if each.text != text]
         self._older = tuple(each for each in self._older if each.text != text)
+        self.keep(draft)
         self._drafts.take_out(text)
 
     def _forget(self, text: str) -> None:
