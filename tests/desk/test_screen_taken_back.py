@@ -305,7 +305,9 @@ def test_what_a_lost_session_left_is_taken_back_later(
     paste(sat, "One.\nTwo.\nThree.")
     sat.press("y", "escape", "u", "y")
     sat.state = sat.desk.away(sat.state, print)
-    assert "what was asked last is not in it" in sat.state.message
+    stopped = "is at version 11. What was being done was stopped after 1 change."
+    assert sat.state.message.endswith(stopped)
+    assert sat.state.kept == "kept: 1 change"
     assert [each.struck for each in sat.state.book[1:4]] == [False, False, True]
     sat.press("u", "y")
     sat.state = sat.desk.away(sat.state, print)

@@ -583,7 +583,7 @@ def test_of_a_change_that_was_cut_short_no_earlier_one_is_taken_back(
         f" {version + 1}. What was being done was stopped after 1 change. The places are listed as"
         " they are now."
     )
-    assert "last kept" not in sat.lines[0]
+    assert "last kept: 1 change" in sat.lines[0]
     sat.press("escape", "u")
     taken = "Taken back: the newest correction of paragraph 1."
     assert sat.state.message == taken

@@ -107,7 +107,7 @@ from scribe.words.aftermath import found_again
 from scribe.words.changes import not_given
 from scribe.words.deeds import Deed, kept
 from scribe.words.drafts import Unsent, came_last, not_kept, where_typed
-from scribe.words.paragraph import part_of, quoted
+from scribe.words.paragraph import counted, part_of, quoted
 from scribe.words.preview import Preview, Tables
 from scribe.words.status import Interrupted, Stop, in_sentences, of_system
 
@@ -591,10 +591,7 @@ class Desk:
         Work of many commands, of which the state knows none, began at a version. What is typed was
         sent, if a command was.
         """
-        state = self.saved(state.saying(""))
-        if begun is not None and begun != lost.version:
-            # what was done before would be taken back in the place of this
-            state = replace(state, deeds=(), kept="")
+        state = _kept_since(self.saved(state.saying("")), begun, lost.version)
         if isinstance(lost, Displaced):
             return self._displaced(state, lost)
         waits = draft_of(state) or self._unsent.waiting
@@ -604,7 +601,8 @@ class Desk:
             there = aftermath.found_again(self._session, lost)
             found_words = found_again(there, begun)
             said = f"{lost.cause} {found_words} {unsaved}".strip()
-            found = state.saying(said)
+            kept_to = lost.version + (there.kept or 0)
+            found = _kept_since(state.saying(said), begun, kept_to)
             is_same = state.version == self._session.last_version
             is_about_lines = state.question is None or bool(state.question.lines)
             if is_same and state.typed is not None and is_about_lines:
@@ -757,6 +755,7 @@ class Desk:
         """Takes back what a key did by many commands, as far as none is refused."""
         deed = state.deeds[-1]
         said, done, count = deed.sentence, 0, len(deed.back)
+        begun = state.version
         try:
             for command in deed.back:
                 self._check()
@@ -767,7 +766,7 @@ class Desk:
                 state = replace(state, version=version, kept=kept(asked, answer))
                 report(f"{done:,} of {count:,} done.")
         except Lost as lost:
-            return self._after_loss(so_far(state, done), lost)
+            return self._after_loss(so_far(state, done), lost, begun)
         except Refused as refused:
             said = f"{done:,} of {count:,} done. {refused.reason}"
         except Interrupted:
@@ -928,7 +927,11 @@ class Desk:
         try:
             return whole_book.done(self._session, state, action, tell)
         except Lost as lost:
-            return self._after_loss(state, lost, state.version)
+            begun = state.version
+            if lost.version != begun:
+                # what was done before would be taken back in the place of this
+                state = replace(state, deeds=())
+            return self._after_loss(state, lost, begun)
 
     def _noting(
         self, state: State, action: ChangePlaces, tell: whole_book.Report
@@ -1111,6 +1114,13 @@ def _is_gone_on_from(asked: Command[Any] | Action | None) -> bool:
     """Whether another new paragraph is typed after what a key asked for."""
     is_of_new = isinstance(asked, TypeAll) and asked.purpose.is_new
     return is_of_new or isinstance(asked, requests.Type)
+
+
+def _kept_since(state: State, begun: int | None, version: int) -> State:
+    """The state in which the changes since work of many began were kept last, if there are any."""
+    if begun is None or version <= begun:
+        return state
+    return replace(state, kept=f"kept: {counted(version - begun, 'change')}")
 
 
 def _still_typed(state: State, is_sent: bool) -> State:
