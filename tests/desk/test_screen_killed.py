@@ -107,7 +107,8 @@ def test_what_the_screen_said_is_kept_where_the_session_is_killed(
     terminal = at(moon, **standing_in(number, far, KILL_PROGRAM))
     worked(terminal, number)
     lines = terminal.wait("The book was opened again")
-    assert lines[0].endswith(SAID[number if far == ANSWERED else number - 1])
+    said = SAID[number if far == ANSWERED else number - 1]
+    assert lines[0].endswith("last kept: 1 change" if far == KEPT else said)
     # what isn't in the book is typed still, and given up
     terminal.keys("escape", "q")
     assert terminal.ended() == 0

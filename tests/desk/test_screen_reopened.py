@@ -224,6 +224,7 @@ def test_a_command_that_was_under_way_is_found_in_the_book_or_still_typed(
             "The session was ended by signal 9. The book was opened again: it is at version 8, and"
             f" what was asked last is in it. What was typed last is in the book, {where}"
         )
+        assert "last kept: 1 change" in sat.lines[0]
         assert sat.state.question is None and sat.desk.drafts.waiting() is None
         return
     assert sat.state.message == (

@@ -588,8 +588,7 @@ class Desk:
     ) -> State:
         """The book opened again after its session ended by itself, and what it has is said.
 
-        Work of many commands, of which the state knows none, began at a version. What is typed was
-        sent, if a command was.
+        Work of many commands began at a version. What is typed was sent, if a command was.
         """
         state = _kept_since(self.saved(state.saying("")), begun, lost.version)
         if isinstance(lost, Displaced):
@@ -602,7 +601,8 @@ class Desk:
             found_words = found_again(there, begun)
             said = f"{lost.cause} {found_words} {unsaved}".strip()
             kept_to = lost.version + (there.kept or 0)
-            found = _kept_since(state.saying(said), begun, kept_to)
+            since = lost.version if begun is None else begun
+            found = _kept_since(state.saying(said), since, kept_to)
             is_same = state.version == self._session.last_version
             is_about_lines = state.question is None or bool(state.question.lines)
             if is_same and state.typed is not None and is_about_lines:
