@@ -25,6 +25,25 @@ CASES = {
             "Correction 1 of paragraph 1 is taken back. The book is at version 8.",
         ),
     ),
+    "an undo on a short line shows what came back on a line of its own": (
+        ["undo", "1", "--width", "14"],
+        shown(
+            "Paragraph 1:",
+            "The [mon] is…",
+            "Before:",
+            "The [moon] is…",
+            "Mark 1, open,",
+            "  touched, on",
+            "  “mon”:",
+            "  spelled so?",
+            "Correction 1",
+            "  of paragraph",
+            "  1 is taken",
+            "  back. The",
+            "  book is at",
+            "  version 8.",
+        ),
+    ),
     "an undo of nothing is refused": (
         ["undo", "2"],
         refused(

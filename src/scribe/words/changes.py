@@ -15,7 +15,7 @@ from braildesk.protocol.requests import Command, Request
 from braildesk.protocol.values import After, Corrected, Done, Marked, Typed
 from braildesk.text.cells import Notation
 from braildesk.text.characters import visible
-from braildesk.text.excerpt import excerpt, excerpt_lines, opening, word_end, word_front
+from braildesk.text.excerpt import excerpt_lines, opening, word_end, word_front
 from braildesk.text.wrapping import columns
 
 from scribe.words.find import instead
@@ -121,10 +121,9 @@ def difference(before: str, now: str, width: int, title: str, same: str) -> list
         return [same]
     start = word_front(now, least.start)
     kept = len(before) - word_end(before, least.stop)
-    head, former = f"{title}: ", "Before: "
     return [
-        head + excerpt(now, start, len(now) - kept, width - len(head)),
-        former + excerpt(before, start, len(before) - kept, width - len(former)),
+        *in_its_line(title, now, start, len(now) - kept, width),
+        *in_its_line("Before", before, start, len(before) - kept, width),
     ]
 
 
