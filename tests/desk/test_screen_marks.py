@@ -149,6 +149,21 @@ def test_a_mark_that_an_edit_touched_from_elsewhere_is_in_hand(
     assert sat.state.kept == "kept: mark 1 resolved"
 
 
+def test_a_mark_in_hand_that_is_elsewhere_is_not_counted_here(
+    moon: Path, sit: Sit
+) -> None:
+    with Session(moon) as session:
+        session.add_mark(1, 17, 5, "how far?")
+    sat = sit(moon)
+    # the edit begins on the one mark, and ends on the other
+    sat.press("n", "enter", "end", "backspace", "!", "enter")
+    first = "Mark 1, open, on “moon”: spelled so?"
+    second = "Mark 2, open, touched, on “away!”: how far?"
+    assert sat.lines[-5:-3] == [first, second]
+    sat.press("r")
+    assert sat.lines[-5:-3] == [second, first.replace("open", "resolved")]
+
+
 def test_each_mark_of_one_character_is_gone_to_shown_and_resolved(
     moon: Path, sit: Sit
 ) -> None:

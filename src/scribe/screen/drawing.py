@@ -382,8 +382,11 @@ def _mark_lines(state: State, marks: tuple[Mark, ...], most: int) -> list[str]:
         return _marked(state)
     assert state.reading is not None
     text, width = state.reading.text, state.size.columns
-    first = wrap(_how_many(marks) + mark_line(marks[0], text), width)
-    others = [wrap(mark_line(mark, text), width) for mark in marks[1:]]
+    # the one in hand is shown wherever it is, and isn't counted elsewhere
+    here = [mark for mark in marks if state.is_on(mark)]
+    counted = {mark.id: _how_many(here) for mark in here[:1]}
+    said = (counted.get(mark.id, "") + mark_line(mark, text) for mark in marks)
+    first, *others = (wrap(each, width) for each in said)
     if len(first) + sum(map(len, others)) > most:
         count = max(most // 3, most - len(first))
         others = [_at_most(each, 1, width) for each in others[:count]]
@@ -408,8 +411,8 @@ def _marked(state: State) -> list[str]:
     return [opening(f"Marked: {'; '.join(where)}.", state.size.columns)]
 
 
-def _how_many(marks: tuple[Mark, ...]) -> str:
-    """How many marks there are if there are several, and how many of them are open."""
+def _how_many(marks: list[Mark]) -> str:
+    """How many marks are at the cursor if several are, and how many of them are open."""
     if len(marks) == 1:
         return ""
     count = sum(not mark.resolved for mark in marks)

@@ -322,14 +322,15 @@ class State:
         """
         if self.reading is None or self.highlighted is None:
             return ()
-        held, words = self.mark_in_hand, self.highlighted.words
-        last = max(0, len(self.reading.text) - 1)
-        found = (
-            mark
-            for mark in self.reading.marks
-            if mark == held or _stands_on(mark, words, last)
-        )
+        held = self.mark_in_hand
+        found = (m for m in self.reading.marks if m == held or self.is_on(m))
         return tuple(sorted(found, key=lambda mark: (mark.resolved, mark != held)))
+
+    def is_on(self, mark: Mark) -> bool:
+        """Whether the cursor is on a mark of its paragraph; the one in hand may be elsewhere."""
+        assert self.reading is not None and self.highlighted is not None
+        last = max(0, len(self.reading.text) - 1)
+        return _stands_on(mark, self.highlighted.words, last)
 
     @property
     def marked_words(self) -> tuple[Span, ...]:
