@@ -333,11 +333,13 @@ def test_two_lines_show_what_is_typed_until_a_key_has_something_said() -> None:
     assert draw(typed).texts() == ["New paragraph, last kept: mark 1", "It"]
     narrow = draw(replace(typed, size=Size(20, 4))).texts()
     assert narrow == ["last kept: mark 1", "It", "New paragraph.", ""]
+    # so of a note, which stays as it was typed, below what is said of all of it
     note = replace(state, typed=Field(Purpose.NOTE, "why?", 4, said="On “moon”."))
-    for said in (note, note.saying("On “moon”.")):
-        drawn = draw(said)
-        assert drawn.texts() == ["On “moon”.", "Note of the mark: why?"]
-        assert drawn.cursor == (1, 22)
+    drawn = draw(note)
+    assert drawn.texts() == ["On “moon”.", "Note of the mark: why?"]
+    assert drawn.cursor == (1, 22)
+    refused = draw(note.saying("No mark was put."))
+    assert (refused.texts()[1], refused.cursor) == ("No mark was put.", (1, 0))
 
 
 def test_a_long_refusal_leaves_room_for_the_book() -> None:

@@ -150,10 +150,10 @@ def test_what_a_mark_goes_on_is_said_where_its_note_is_typed_further(
     sat.press("y")
     assert sat.state.heard == "The print there has been changed since. On “n i”."
     sat.state = sat.desk.resized(sat.state, Size(40, 2))
-    assert sat.lines == [
-        "The print there has been changed since.…",
-        "Note of the mark: how far?",
-    ]
+    changed = "The print there has been changed since.…"
+    assert sat.lines[1] == changed
+    sat.press("end")
+    assert sat.lines == [changed, "Note of the mark: how far?"]
     sat.state = sat.desk.resized(sat.state, Size(80, 24))
     sat.press("enter")
     assert "Mark 2, open, on “n i”: how far?" in " ".join(sat.lines)

@@ -227,15 +227,24 @@ def _bottom(state: State) -> Area:
     typed = state.typed if state.is_typing and not state.is_lost else None
     width, own = state.size.columns, _own(state)
     if typed and not typed.purpose.is_print:
-        text, place = _tail(PROMPTS[typed.purpose], typed, width)
-        # on two lines what is said of it covers the title
-        lines = _below(state, max(1, state.size.lines - 2), own.count - 1)
-        return Area([(Run(line),) for line in [*lines, text]], (len(lines), place))
+        return _prompted(state, typed)
     lines = _below(state, state.size.lines - 1, own.count - own.hint)
     # the keys are what is needed least
     if own.hint and len(lines) < state.size.lines - 1 - _LEAST_OF_BOOK:
         lines.append(opening(_hint(state), width))
     return Area([(Run(line),) for line in lines])
+
+
+def _prompted(state: State, typed: Field) -> Area:
+    """What is said, and below it the words, the number or the name that is typed."""
+    room = state.size.lines - 2
+    if state.message and room < 1:
+        # on two lines what a key had said covers what is typed, until the next key
+        return Area([(Run(line),) for line in _message(state, 1)], (0, 0))
+    text, place = _tail(PROMPTS[typed.purpose], typed, state.size.columns)
+    # what is said of all that is typed covers the title there
+    lines = _below(state, max(1, room), _own(state).count - 1)
+    return Area([(Run(line),) for line in [*lines, text]], (len(lines), place))
 
 
 def _asked(state: State, question: Question) -> Area:
