@@ -440,6 +440,14 @@ def test_a_file_of_other_lines_replaces_nothing(
     assert version(book) == 1
 
 
+def test_what_is_no_file_replaces_nothing_and_is_not_said_to_be_missing(
+    book: Path,
+) -> None:
+    for name, why in ((".", ". is there, but is no file"), ("x", "there is no file x")):
+        found = put(book, "--replace", name)
+        assert found.status == 1 and f"Argument --replace: {why}." in found.said
+
+
 def test_places_of_a_text_are_those_of_its_file_after_characters_were_replaced() -> (
     None
 ):

@@ -312,11 +312,14 @@ def readable(word: str) -> Path:
     path = Path(word)
     try:
         is_file = path.is_file() or is_handed_over(path)
+        is_there = is_file or path.exists()
     except (OSError, ValueError) as cause:
         why = (isinstance(cause, OSError) and cause.strerror) or cause
         raise argparse.ArgumentTypeError(f"{word} can't be read: {why}") from cause
-    if not is_file:
+    if not is_there:
         raise argparse.ArgumentTypeError(f"there is no file {word}")
+    if not is_file:
+        raise argparse.ArgumentTypeError(f"{word} is there, but is no file")
     return path
 
 
