@@ -188,9 +188,9 @@ def test_each_key_for_a_paragraph_is_kept_and_shown(moon: Path, sit: Sit) -> Non
         ("v", "begins a volume", "body, volume: The Tides", 2),
         ("v", "begins no volume", "body: The Tides", 2),
         ("t p l a i n enter", "with table plain", "body: The Tides", 2),
-        ("a-up", "moved", "body: The Tides", 1),
-        ("a-down", "moved", "body: The Tides", 2),
-        ("a-down", "moved", "body: The Tides", 3),
+        ("a-up", "moved to the front", "body: The Tides", 1),
+        ("a-down", "moved after 1", "body: The Tides", 2),
+        ("a-down", "moved after 3", "body: The Tides", 3),
     ):
         sat.press(*keys.split())
         version += 1

@@ -112,7 +112,7 @@ def test_what_is_done_is_taken_back_with_each_key(moon: Path, at: Open) -> None:
     window.press("Down")
     window.reads("Print", "Twice a day the sea comes up.")
     window.press("Alt+Up")
-    window.reads("Message", "Kept: paragraph 3 moved.")
+    window.reads("Message", "Kept: paragraph 3 moved after 1.")
     window.lists(1, plain[1])
     window.press("Alt+Down")
     window.lists(2, plain[1])

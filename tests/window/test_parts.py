@@ -67,7 +67,7 @@ def test_each_action_stands_in_a_menu_and_is_done_from_there(
         ("Volume begins here, or not", "Kept: paragraph 1 begins a volume."),
         ("Strike or restore", "Kept: paragraph 1 struck."),
         ("Take back", "Taken back: paragraph 1 was struck."),
-        ("Move down", "Kept: paragraph 1 moved."),
+        ("Move down", "Kept: paragraph 1 moved after 2."),
         ("Braille ASCII or Unicode", "Cells are shown in Braille ASCII."),
         ("Copy the braille as Unicode", "Copied as Unicode: 10 cells."),
         ("Open mark before", "Mark 1, open, on “mon”: spelled so?"),

@@ -212,5 +212,8 @@ def _kept_of_paragraph(command: Command[Any]) -> str:
         case requests.Retable():
             return f"paragraph {command.paragraph} with table {command.table}"
         case requests.Move():
-            return f"paragraph {command.paragraph} moved"
+            # where to, so that a second one is heard too; short, for a line of 40 columns
+            after = command.after
+            where = f"after {after}" if isinstance(after, int) else f"to the {after}"
+            return f"paragraph {command.paragraph} moved {where}"
     raise TypeError(f"no command of a book: {command!r}")
