@@ -11,11 +11,20 @@ from pathlib import Path
 import pytest
 from hypothesis import HealthCheck, given, settings
 from hypothesis import strategies as st
+from sitting import Sit
+from stand_in import KEPT, KILL_SCRIBE
+from terminal import once_free, standing_in
 from tool import Ran, scribe
 
 from braildesk import Entry, Kind, Session
 from braildesk.desk.change import Change, change_place
-from braildesk.desk.change_all import NotChanged, Replacement, change_all
+from braildesk.desk.change_all import (
+    NotChanged,
+    Replacement,
+    change_proposed,
+    proposals,
+)
+from braildesk.desk.drafts import Drafts
 from braildesk.desk.ranges import ParagraphRange
 from braildesk.desk.tables import FOLDER
 from braildesk.text.spans import Span
@@ -294,6 +303,90 @@ def test_where_it_is_stopped_it_is_said_what_is_in_the_book(
         "Stopped. Of 4 places 2 are changed in the book. The book is at version 7.\n"
     )
     assert prints(moons) == ["The moon and the Mooon.", "A moonlit mooon", "No mooon"]
+    monkeypatch.setattr("braildesk.desk.change_all.change_place", change_place)
+    ran = changed(moons, "mooon", "moon", "--ask", given="no\nno\n")
+    assert ran.said.startswith(
+        "Changing “mooon” to “moon” was cut short: 2 of 4 places are changed already.\n"
+    )
+
+
+@pytest.fixture
+def tides(empty_book: Path) -> Path:
+    """A book with words that stand in the new ones too."""
+    with Session(empty_book) as session:
+        session.supply_table("en")
+        for text in ("The tide", "a tide and tide", "tides of tide", "a    b"):
+            session.add_paragraph("end", "en", text)
+    return empty_book
+
+
+def killed(book: Path, *words: str, at: int = 2, given: str = "") -> None:
+    """Changes words until scribe is killed once a command is kept."""
+    name, *others = words
+    ran = scribe(
+        *(name, book, *others),
+        folder=book.parent,
+        given=given,
+        **standing_in(at, KEPT, KILL_SCRIBE),
+    )
+    assert ran.status == -signal.SIGKILL
+    once_free(book).close()
+
+
+@pytest.mark.parametrize("how", ["", "--ask", "talk"])
+def test_what_was_changed_before_a_kill_is_changed_once(
+    tides: Path, sit: Sit, how: str
+) -> None:
+    words = "change-all", "tide", "tides"
+    if how == "talk":
+        killed(tides, how, given=" ".join(words))
+    else:
+        killed(tides, *words, *filter(None, [how]), given="yes\nno\nyes\n")
+    said = "Changing “tide” to “tides” was cut short: 2 of 5 places are changed"
+    ran = changed(tides, "tide", "tides", "--dry-run")
+    assert ran.shown.count("After: ") == 3
+    assert ran.said.startswith(f"{said} already.\n“tide” would be changed in 3 places")
+    sat = sit(tides)
+    assert sat.state.question and sat.state.question.sentence.startswith(said)
+    sat.desk.close()
+    killed(tides, *words, at=1)
+    ran = changed(tides, "tide", "tides", *filter("--ask".__eq__, [how]), given="a\n")
+    assert ran.said.startswith(said.replace("2 of", "3 of"))
+    assert "“tide” was replaced by “tides” in 2 places" in ran.said
+    rest = ["tidess of tides", "a    b"]
+    assert prints(tides) == ["The tides", "a tides and tides", *rest]
+    assert Drafts(tides).changes() == ()
+    with Session(tides) as session:
+        # each place was changed once
+        assert session.last_version == 5 + 5
+
+
+def test_what_was_cut_short_in_some_paragraphs_stays_noted_while_others_are_changed(
+    tides: Path, sit: Sit
+) -> None:
+    killed(tides, "change-all", "tide", "tides", "--in", "1-2")
+    assert changed(tides, "tide", "tides", "--in", "3").status == 0
+    sat = sit(tides)
+    assert sat.state.question and " 2 of 3 places " in sat.state.question.sentence
+    sat.press("y", "a")
+    sat.desk.close()
+    rest = ["tidess of tides", "a    b"]
+    assert prints(tides) == ["The tides", "a tides and tides", *rest]
+    assert Drafts(tides).changes() == ()
+
+
+def test_a_place_that_shares_letters_with_a_changed_one_goes_on(tides: Path) -> None:
+    killed(tides, "change-all", "  ", " ", at=1)
+    assert " 1 of 2 places is " in changed(tides, "  ", " ").said
+    assert prints(tides)[3] == "a  b"
+    # all of it was changed before a kill
+    killed(tides, "change-all", "  ", "", at=1)
+    assert changed(tides, "  ", "") == Ran(
+        0,
+        "",
+        "Taking out “  ” was cut short: 1 of 1 place is changed already.\n"
+        "There are no more places to change.\n",
+    )
 
 
 def stopped_after_two(
@@ -463,7 +556,7 @@ def test_words_are_replaced_as_by_a_small_model(
             session.strike(numbers[-1])
     ranges = (ParagraphRange(numbers[0], numbers[-1]),)
     wanted = Replacement(old, new, words, case, ranges, "anna")
-    came = list(change_all(session, wanted))
+    came = list(change_proposed(session, proposals(session, wanted), wanted.by))
     done = [each.paragraph for each in came if isinstance(each, Change)]
     refused = [e.proposal.paragraph for e in came if isinstance(e, NotChanged)]
     for number, (text, is_struck) in zip(numbers, texts):

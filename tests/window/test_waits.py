@@ -22,7 +22,7 @@ from scribe.window.book import ChosenParagraph, Done
 from scribe.window.desk import Desk, New
 from scribe.window.marking import Marking
 
-from conftest import Open, prints, wait
+from conftest import Answers, Open, prints, wait
 from test_cancelled import STAND_IN
 
 Note = Callable[[str, str | None], None]
@@ -342,6 +342,53 @@ def test_of_words_whose_change_was_cut_short_no_earlier_change_is_taken_back(
         desk.act("take_back")
         assert desk.window.message.text.startswith("Nothing that was done in this")
         assert prints_of(desk)[1] == "So, The mon is fer eway."
+
+
+@pytest.mark.parametrize("moment", ["3 read", ""])
+def test_words_whose_change_was_cut_short_are_asked_about_until_all_are_changed_or_left(
+    opened: Opened, given: Answers, monkeypatch: pytest.MonkeyPatch, moment: str
+) -> None:
+    given["fields"] = ["o", "oo"], [False, False]
+    given["choices"] = [0]
+    long = dialogs.long
+    with opened(moment) as desk:
+        if not moment:
+            # a person stops it before the third place
+            look = [False, False, True]
+            monkeypatch.setattr(
+                dialogs,
+                "long",
+                lambda over, worker, title, act: long(
+                    *(over, worker, title),
+                    lambda say, _: act(say, lambda: look.pop(0)),
+                ),
+            )
+        desk.act("change_all")
+        if not moment:
+            assert desk.window.message.text.endswith(" The rest stays as it was.")
+        (note,) = Drafts(desk.path).changes()
+    monkeypatch.setattr(dialogs, "long", long)
+    said = "Changing “o” to “oo” was cut short: 2 of 4 places are changed"
+    with opened() as desk:
+        given["said"], given["choices"] = [], [2, 0, 0]
+        desk.acting(Actions(desk).offer)
+        assert Drafts(desk.path).changes() == (note,)
+        desk.acting(Actions(desk).offer)
+        assert given["said"][:2] == [f"{said}. Shall the others be changed?"] * 2
+        start = f"{said} already. “o” would be changed in 2 places of 2 paragraphs"
+        assert given["said"][2].startswith(start)
+        assert prints_of(desk) == [
+            "The Moooon",
+            "The moon is far away.",
+            "Twice a day the sea coomes up.",
+        ]
+        assert Drafts(desk.path).changes() == ()
+        given["choices"] = [0, 1]
+        desk.act("take_back")
+        desk.drafts.begin_change(note)
+        desk.acting(Actions(desk).offer)
+        assert desk.window.message.text == "The other places stay as they are."
+        assert Drafts(desk.path).changes() == ()
 
 
 def test_of_many_that_are_taken_back_once_the_session_ended_meanwhile_none_is_twice(

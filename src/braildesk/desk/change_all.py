@@ -32,12 +32,17 @@ class Replacement:
     def _form(self) -> Form:
         return any_case if self.is_of_any_case else composed
 
-    def places(self, text: str, start: int = 0) -> Iterator[Span]:
-        """The places from one on, none of which stands in another, from left to right."""
+    def places(self, text: str, apart: Iterable[Span] = ()) -> Iterator[Span]:
+        """The places, none of which stands in another or in those apart, from left to right."""
+        others = sorted(apart, key=lambda each: each.start, reverse=True)
+        start = 0
         for place in find_spans(text, self.old, self._form):
-            if place.start >= start and (
-                not self.is_of_words or _are_words(text, place)
-            ):
+            while others and others[-1].stop <= place.start:
+                others.pop()
+            is_taken = others and others[-1].start < place.stop
+            if is_taken or place.start < start:
+                continue
+            if not self.is_of_words or _are_words(text, place):
                 yield place
                 start = place.stop
 
@@ -91,13 +96,16 @@ class Passed:
 Choice = Callable[[Proposal], bool]
 
 
-def proposals(session: Session, wanted: Replacement) -> list[Proposal]:
-    """All places of a book that would be changed, as they are now.
+def proposals(
+    session: Session, wanted: Replacement, apart: Iterable[Proposal] = ()
+) -> list[Proposal]:
+    """All places of a book that would be changed, as they are now, and that stand in none of others.
 
     Where the new words are the same as those that stand there, nothing would be.
     """
-    _judge(wanted)
-    return [each for each in _places(session, wanted) if each.changes]
+    if composed(wanted.old) == composed(wanted.new):
+        raise SameWords
+    return [each for each in _places(session, wanted, apart) if each.changes]
 
 
 def is_there(session: Session, wanted: Replacement) -> bool:
@@ -105,23 +113,11 @@ def is_there(session: Session, wanted: Replacement) -> bool:
     return bool([*_places(session, wanted)])
 
 
-def change_all(
-    session: Session, wanted: Replacement, is_wanted: Choice = lambda _: True
-) -> Iterator[Change | NotChanged | Passed]:
-    """Replaces words wherever they stand, and gives what became of each place in the book's order.
-
-    Each place is a correction of its own, which is kept before the next one is made. What is put in
-    isn't looked through again. Raises `SameWords`, `NoParagraph` and `BackwardRange`.
-    """
-    _judge(wanted)
-    its = _chosen(session, wanted)
-    texts = list(prints(session, its))
-    for paragraph, text in zip(its, texts):
-        yield from _change_in(session, paragraph.id, text, wanted, is_wanted)
-
-
 def change_proposed(
-    session: Session, found: Iterable[Proposal], by: str | None = None
+    session: Session,
+    found: Iterable[Proposal],
+    by: str | None = None,
+    is_wanted: Choice = lambda _: True,
 ) -> Iterator[Change | NotChanged | Passed]:
     """Changes places that were proposed, in the book's order, and gives what became of each.
 
@@ -131,7 +127,7 @@ def change_proposed(
         left = list(its)
         while left:
             proposal = left.pop(0)
-            if not proposal.changes:
+            if not (proposal.changes and is_wanted(proposal)):
                 yield Passed(proposal)
                 continue
             number, text, place = proposal.paragraph, proposal.text, proposal.place
@@ -165,31 +161,6 @@ def moved_by(change: Change, found: Iterable[Proposal]) -> list[Proposal]:
     ]
 
 
-def _change_in(
-    session: Session, number: int, text: str, wanted: Replacement, is_wanted: Choice
-) -> Iterator[Change | NotChanged | Passed]:
-    """Replaces words in a paragraph."""
-    start = 0
-    while (place := next(wanted.places(text, start), None)) is not None:
-        proposal = _proposal(number, text, place, wanted)
-        start = place.stop
-        if not (proposal.changes and is_wanted(proposal)):
-            yield Passed(proposal)
-            continue
-        try:
-            change = change_place(session, number, text, place, proposal.new, wanted.by)
-        except Refused as refused:
-            yield NotChanged(proposal, refused)
-            continue
-        text, start = change.now, change.came.stop
-        yield change
-
-
-def _judge(wanted: Replacement) -> None:
-    if composed(wanted.old) == composed(wanted.new):
-        raise SameWords
-
-
 def _chosen(session: Session, wanted: Replacement) -> Sequence[Paragraph]:
     """The paragraphs in which words are replaced, each once, in the order of the book."""
     book = session.paragraphs()
@@ -197,11 +168,16 @@ def _chosen(session: Session, wanted: Replacement) -> Sequence[Paragraph]:
     return [each for each in book if each.id in numbers]
 
 
-def _places(session: Session, wanted: Replacement) -> Iterator[Proposal]:
-    """All places where the words stand."""
+def _places(
+    session: Session, wanted: Replacement, apart: Iterable[Proposal] = ()
+) -> Iterator[Proposal]:
+    """All places where the words stand, but those that stand in others."""
+    others: dict[int, list[Span]] = {}
+    for each in apart:
+        others.setdefault(each.paragraph, []).append(each.place)
     its = _chosen(session, wanted)
     for paragraph, text in zip(its, prints(session, its)):
-        for place in wanted.places(text):
+        for place in wanted.places(text, others.get(paragraph.id, ())):
             proposal = _proposal(paragraph.id, text, place, wanted)
             yield replace(proposal, is_struck=paragraph.struck)
 

@@ -3,8 +3,12 @@
 from dataclasses import dataclass
 from enum import Enum
 
+from braildesk.desk.ranges import ParagraphRange
 from braildesk.desk.record import NotSuch, Record
 from braildesk.protocol.value import Value
+
+#: The ranges of all paragraphs.
+WHOLE = (ParagraphRange(),)
 
 
 class Became(Enum):
@@ -36,11 +40,12 @@ class ChangeNote(Value):
     is_of_any_case: bool
     version: int
     places: tuple[NotedPlace, ...]
+    ranges: tuple[ParagraphRange, ...] = WHOLE
 
-    @property
-    def words(self) -> tuple[str, str]:
-        """The words that go, and those that come."""
-        return self.old, self.new
+    def is_of(self, old: str, new: str, ranges: tuple[ParagraphRange, ...]) -> bool:
+        """Whether it is of these words, in no more than these ranges."""
+        is_within = ranges in (WHOLE, self.ranges)
+        return is_within and (self.old, self.new) == (old, new)
 
     def values(self) -> dict[str, object]:
         """What is kept of it as JSON."""
@@ -50,6 +55,7 @@ class ChangeNote(Value):
             "is_of_words": self.is_of_words,
             "is_of_any_case": self.is_of_any_case,
             "version": self.version,
+            "ranges": [{"first": i.first, "last": i.last} for i in self.ranges],
             "places": [
                 {
                     "paragraph": each.paragraph,
@@ -72,7 +78,12 @@ def change_note_in(kept: Record) -> ChangeNote:
         kept.truth("is_of_any_case"),
         kept.number("version"),
         tuple(map(_place_in, kept.records("places"))),
+        tuple(map(_range_in, kept.records("ranges"))),
     )
+
+
+def _range_in(kept: Record) -> ParagraphRange:
+    return ParagraphRange(kept.number_or_none("first"), kept.number_or_none("last"))
 
 
 def _place_in(kept: Record) -> NotedPlace:

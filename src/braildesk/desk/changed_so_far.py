@@ -1,30 +1,131 @@
 """Words that were being changed wherever they stand: what became of each place, as its print shows."""
 
-from collections.abc import Sequence
+from collections.abc import Callable, Iterable, Iterator, Sequence
+from contextlib import suppress
 from dataclasses import replace
 
 from braildesk import Session
-from braildesk.desk.change_all import Proposal, Replacement
+from braildesk.desk.change import Change
+from braildesk.desk.change_all import (
+    Choice,
+    NotChanged,
+    Passed,
+    Proposal,
+    Replacement,
+    change_proposed,
+    proposals,
+)
 from braildesk.desk.change_note import Became, ChangeNote, NotedPlace
+from braildesk.desk.drafts import Drafts, NotKept
 from braildesk.desk.readings import prints
 from braildesk.text.sequences import composed
 from braildesk.text.spans import Span
+
+#: Places as they are now, each with what became of it.
+PlacesNow = list[tuple[Proposal, Became]]
 
 
 def wanted_by(note: ChangeNote, by: str | None) -> Replacement:
     """Which words are replaced and by which, in the name of somebody."""
     how = note.is_of_words, note.is_of_any_case
-    return Replacement(note.old, note.new, *how, by=by)
+    return Replacement(note.old, note.new, *how, note.ranges, by)
 
 
-def noted(its: Proposal, became: Became) -> NotedPlace:
+def note_of(
+    wanted: Replacement, places: Iterable[tuple[Proposal, Became]], version: int
+) -> ChangeNote:
+    """What is noted of words in a book of a version, before more of their places are changed."""
+    return ChangeNote(
+        *(wanted.old, wanted.new, wanted.is_of_words, wanted.is_of_any_case, version),
+        tuple(_noted(its, became) for its, became in places),
+        wanted.ranges,
+    )
+
+
+def left_open(session: Session, drafts: Drafts) -> list[tuple[ChangeNote, PlacesNow]]:
+    """What is noted of words of which not all places were changed, with the places as they are now.
+
+    What is noted of words whose places are all done is taken away.
+    """
+    found = []
+    for note, places in _noted_now(session, drafts):
+        is_seen = len(places) == len(note.places)
+        if is_seen and not any(became is Became.OPEN for _, became in places):
+            with suppress(NotKept):
+                drafts.end_change(note.old, note.new, note.ranges)
+        else:
+            found.append((note, places))
+    return found
+
+
+def _noted_now(
+    session: Session, drafts: Drafts
+) -> Iterator[tuple[ChangeNote, PlacesNow]]:
+    for note in drafts.changes():
+        # an older file may be there for a while, as one from a backup
+        if session.last_version >= note.version:
+            yield note, places_now(session, note)
+
+
+class Further:
+    """Words that are changed wherever they stand, from where that was cut short before."""
+
+    def __init__(self, session: Session, drafts: Drafts, wanted: Replacement) -> None:
+        self._session = session
+        self._drafts = drafts
+        self.wanted = wanted
+        #: What was noted of them before, with the places as they are now.
+        self.notes = [
+            (note, places)
+            for note, places in _noted_now(session, drafts)
+            if note.is_of(wanted.old, wanted.new, note.ranges)
+        ]
+        #: The places that were changed or left before.
+        self.answered = {
+            (its.paragraph, its.place): (its, became)
+            for _, places in self.notes
+            for its, became in places
+            if became is not Became.OPEN
+        }.values()
+
+    def found(self) -> list[Proposal]:
+        """The places that are to be changed."""
+        left = {(its.paragraph, its.place) for its in self._that(Became.LEFT)}
+        places = proposals(self._session, self.wanted, self._that(Became.CHANGED))
+        return [each for each in places if (each.paragraph, each.place) not in left]
+
+    def changed(
+        self,
+        found: Sequence[Proposal],
+        is_wanted: Choice,
+        report: Callable[[NotKept], None] = lambda _: None,
+    ) -> Iterator[Change | NotChanged | Passed]:
+        """Changes places, which are noted until the last of them is done; gives what became of each."""
+        wanted, version = self.wanted, self._session.last_version
+        places = [*self.answered, *((each, Became.OPEN) for each in found)]
+        try:
+            self._drafts.begin_change(note_of(wanted, places, version))
+        except NotKept as fault:
+            report(fault)
+        yield from map(Passed, self._that(Became.LEFT))
+        yield from change_proposed(self._session, found, wanted.by, is_wanted)
+        try:
+            self._drafts.end_change(wanted.old, wanted.new, wanted.ranges)
+        except NotKept as fault:
+            report(fault)
+
+    def _that(self, became: Became) -> list[Proposal]:
+        return [its for its, what in self.answered if what is became]
+
+
+def _noted(its: Proposal, became: Became) -> NotedPlace:
     """What is noted of a place that is as it was proposed."""
     start, stop = its.place.start, its.place.stop
     words = its.text[start:stop]
     return NotedPlace(its.paragraph, len(its.text), start, words, became)
 
 
-def places_now(session: Session, note: ChangeNote) -> list[tuple[Proposal, Became]]:
+def places_now(session: Session, note: ChangeNote) -> PlacesNow:
     """The places as they are now, without those of prints that were changed otherwise since."""
     places: dict[int, list[NotedPlace]] = {}
     for each in note.places:

@@ -15,7 +15,7 @@ from pathlib import Path
 from typing import TypeVar
 
 from braildesk.desk import Problem
-from braildesk.desk.change_note import ChangeNote, change_note_in
+from braildesk.desk.change_note import WHOLE, ChangeNote, change_note_in
 from braildesk.desk.draft import Draft, Unread, draft_in, unread_in, written
 from braildesk.desk.identity import Identity, identity_of
 from braildesk.desk.import_note import ImportNote, Pairs, note_in, pairs_in, values_of
@@ -29,6 +29,7 @@ from braildesk.desk.own_folder import (
     opened,
     state_folder,
 )
+from braildesk.desk.ranges import ParagraphRange
 from braildesk.desk.record import NotSuch, Record
 from braildesk.protocol.value import Value
 
@@ -254,11 +255,14 @@ class Drafts:
 
     def begin_change(self, note: ChangeNote) -> None:
         """Notes words before the first place is changed, in place of what was noted of them."""
-        self._note_changes((note, *self._other_changes(note.words)))
+        others = self._other_changes(note.old, note.new, note.ranges)
+        self._note_changes((note, *others))
 
-    def end_change(self, words: tuple[str, str]) -> None:
+    def end_change(
+        self, old: str, new: str, ranges: tuple[ParagraphRange, ...] = WHOLE
+    ) -> None:
         """Takes away what is noted of words: all is done, or nobody goes on with it."""
-        others = self._other_changes(words)
+        others = self._other_changes(old, new, ranges)
         if len(others) < len(self.changes()):
             self._note_changes(others)
 
@@ -433,8 +437,11 @@ class Drafts:
         else:
             self._remove(Begun.IMPORTS)
 
-    def _other_changes(self, words: tuple[str, str]) -> tuple[ChangeNote, ...]:
-        return tuple(each for each in self.changes() if each.words != words)
+    def _other_changes(
+        self, old: str, new: str, ranges: tuple[ParagraphRange, ...]
+    ) -> tuple[ChangeNote, ...]:
+        notes = self.changes()
+        return tuple(each for each in notes if not each.is_of(old, new, ranges))
 
     def _note_changes(self, notes: tuple[ChangeNote, ...]) -> None:
         if notes:

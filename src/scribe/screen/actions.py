@@ -203,7 +203,7 @@ class LeaveImport:
 class LeaveChange:
     """Leaves the places of words as they are of which the change was cut short."""
 
-    words: tuple[str, str]
+    wanted: Replacement
 
 
 @dataclass(frozen=True)

@@ -1,12 +1,10 @@
 """The screen at the opening of a book: where it was left, and what was begun and isn't in the book."""
 
-from contextlib import suppress
 from dataclasses import replace
 from pathlib import Path
 
 from braildesk import Session
-from braildesk.desk.change_note import ChangeNote
-from braildesk.desk.changed_so_far import wanted_by
+from braildesk.desk.changed_so_far import left_open, wanted_by
 from braildesk.desk.drafts import Drafts, NotKept
 from braildesk.desk.earlier import PartIsThere, to_go_on
 from braildesk.desk.unfinished import NotSeen, Unfinished
@@ -15,7 +13,6 @@ from scribe.screen.actions import FindPlaces, ImportFrom, LeaveChange
 from scribe.screen.background import question_about
 from scribe.screen.field import Cut, Field, Purpose
 from scribe.screen.state import Pane, Question, State
-from scribe.screen.whole_book import places_of
 from scribe.words.change_all import cut_short
 from scribe.words.drafts import Unsent, not_kept, words_wait
 from scribe.words.import_text import came_to, not_seen
@@ -101,30 +98,18 @@ def reminded(drafts: Drafts, session: Session, state: State) -> State:
 
 def with_changes(drafts: Drafts, session: Session, state: State) -> State:
     """Asks about words of which not all places were changed, or says so if something else is asked."""
-    for note in drafts.changes():
-        # an older file may be there for a while, as one from a backup
-        if session.last_version >= note.version:
-            state = _with_change(drafts, session, state, note)
+    for note, places in left_open(session, drafts):
+        found = cut_short(note, [became for _, became in places])
+        if state.question is not None:
+            state = state.saying_too(f"{found} {_GOES_ON}")
+            continue
+        wanted = wanted_by(note, state.by)
+        question = Question(
+            f"{found} Shall the others be listed?",
+            yes=FindPlaces(wanted),
+            no=LeaveChange(wanted),
+            more="l leaves it for later.",
+        )
+        said = state.message.removesuffix(SHOWS_KEYS).rstrip()
+        state = replace(state, message=said, question=question)
     return state
-
-
-def _with_change(
-    drafts: Drafts, session: Session, state: State, note: ChangeNote
-) -> State:
-    places = places_of(session, note)
-    is_seen = len(places) == len(note.places)
-    if is_seen and not any(each.is_open for each in places):
-        with suppress(NotKept):
-            drafts.end_change(note.words)
-        return state
-    found = cut_short(note, [each.became for each in places])
-    if state.question is not None:
-        return state.saying_too(f"{found} {_GOES_ON}")
-    question = Question(
-        f"{found} Shall the others be listed?",
-        yes=FindPlaces(wanted_by(note, state.by)),
-        no=LeaveChange(note.words),
-        more="l leaves it for later.",
-    )
-    said = state.message.removesuffix(SHOWS_KEYS).rstrip()
-    return replace(state, message=said, question=question)

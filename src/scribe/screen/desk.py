@@ -104,6 +104,7 @@ from scribe.screen.state import (
 from scribe.screen.waiting import asked_about, unkept, where_kept, with_text
 from scribe.words import deeds, pagelook
 from scribe.words.aftermath import found_again
+from scribe.words.change_all import STAY
 from scribe.words.changes import not_given
 from scribe.words.deeds import Deed, kept
 from scribe.words.drafts import Unsent, came_last, not_kept, where_typed
@@ -833,8 +834,9 @@ class Desk:
 
     def _left_out(self, state: State, action: LeaveImport | LeaveChange) -> State:
         if isinstance(action, LeaveChange):
-            self.drafts.end_change(action.words)
-            return state.saying(whole_book.STAY)
+            its = action.wanted
+            self.drafts.end_change(its.old, its.new, its.ranges)
+            return state.saying(STAY)
         self.drafts.end_import(action.note)
         said = f"The rest of {action.note.name} is left out. What is in the book stays there."
         return state.saying(said)
@@ -938,7 +940,7 @@ class Desk:
     ) -> whole_book.Report:
         """Notes the places that are to be changed, until the last of them is done."""
         with suppress(NotKept):
-            self.drafts.begin_change(whole_book.note_of(action, state.version))
+            self.drafts.begin_change(whole_book.noted(action, state.version))
 
         def told(done: int, count: int) -> None:
             tell(done, count)
@@ -950,7 +952,7 @@ class Desk:
     def _end_change(self, wanted: Replacement) -> None:
         """Takes away what is noted of words that were being changed, if anything is."""
         with suppress(NotKept):
-            self.drafts.end_change((wanted.old, wanted.new))
+            self.drafts.end_change(wanted.old, wanted.new, wanted.ranges)
 
     def _with_table(self, state: State, name: str) -> State:
         """Puts an installed table into the book if it has none of that name, then gives it."""

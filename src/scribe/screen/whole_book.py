@@ -3,7 +3,7 @@
 Both are lists that are looked at first, and change the book only by a key in them.
 """
 
-from collections.abc import Callable, Sequence
+from collections.abc import Callable, Iterable, Sequence
 from dataclasses import replace
 from typing import Any
 
@@ -18,7 +18,7 @@ from braildesk.desk.change_all import (
     proposals,
 )
 from braildesk.desk.change_note import Became, ChangeNote
-from braildesk.desk.changed_so_far import noted, places_now
+from braildesk.desk.changed_so_far import Further, note_of, places_now
 from braildesk.desk.drafts import Drafts
 from braildesk.desk.volume_plan import (
     as_they_are,
@@ -46,7 +46,14 @@ from scribe.screen.field import Field, Purpose
 from scribe.screen.in_hand import touched
 from scribe.screen.lists import at_chosen
 from scribe.screen.state import Pages, State, Target
-from scribe.words.change_all import Count, nowhere, proposal_lines
+from scribe.words.change_all import (
+    NONE_LEFT,
+    REST_STAYS,
+    STAY,
+    Count,
+    nowhere,
+    proposal_lines,
+)
 from scribe.words.deeds import Deed
 from scribe.words.paragraph import counted, quoted
 from scribe.words.status import Interrupted
@@ -57,15 +64,12 @@ _MANY = 250_000
 # so many commands are done in a moment
 _FEW = 20
 _OF_CAPITALS = "These have other capitals, which the new words take."
-_STOPPED = "The rest stays as it was."
 _NOT_A_NUMBER = "That is no number of pages, such as 80."
 _OF_PAGES = (
     "Volumes begin at headings where they can, and none has more pages than this."
 )
-_NONE_LEFT = "There are no more places to change."
 _ANEW = "The places are listed as they are now."
 _CLOSED = "The list of places is closed. c lists them again."
-STAY = "The other places stay as they are."
 _CHANGED = (
     "This place is changed already. Escape, then u, takes back the newest change."
 )
@@ -113,7 +117,7 @@ def _of_places(
         case "a" if offer.open_places:
             return state, offer
         case "a":
-            return state.saying(_NONE_LEFT), None
+            return state.saying(NONE_LEFT), None
         case "w":
             other = not wanted.is_of_words
             wanted = replace(wanted, is_of_words=other)
@@ -180,75 +184,68 @@ def _found(
     session: Session, state: State, wanted: Replacement, answered: Sequence[Place]
 ) -> State:
     """The list of the places where words stand, also with other capitals if there are no others."""
-    found, said = proposals(session, wanted), ""
-    if not found and not (wanted.is_of_any_case or state.pages):
+    found, said = proposals(session, wanted, _came(answered)), ""
+    if not (found or answered or wanted.is_of_any_case or state.pages):
         found = proposals(session, replace(wanted, is_of_any_case=True))
         if found:
             wanted, said = replace(wanted, is_of_any_case=True), _OF_CAPITALS
     if not found:
-        return state.saying(nowhere(session, wanted, "."))
+        why = NONE_LEFT if answered else nowhere(session, wanted, ".")
+        return state.saying(why)
     offer = _offer_of(wanted, found, answered)
-    if not offer.places:
-        return state.saying(_NONE_LEFT)
     return _listed_from_open(state, offer).saying(said)
 
 
 def listed_anew(session: Session, state: State, offer: ChangePlaces) -> State:
     """The list of the places of words in a book that is another one now."""
-    places = places_of(session, note_of(offer, state.version))
+    places = _places_of(places_now(session, noted(offer, state.version)))
     if len(places) < len(offer.places) + len(offer.elsewhere):
         return state.saying_too(_CLOSED)
-    found = proposals(session, offer.wanted)
     answered = [each for each in places if not each.is_open]
+    found = proposals(session, offer.wanted, _came(answered))
+    if not found:
+        return state.saying_too(NONE_LEFT)
     offer = _offer_of(offer.wanted, found, answered)
-    if not offer.places:
-        return state.saying_too(_NONE_LEFT)
     return _listed_from_open(state, offer).saying_too(_ANEW)
 
 
-def note_of(offer: ChangePlaces, version: int) -> ChangeNote:
+def noted(offer: ChangePlaces, version: int) -> ChangeNote:
     """What is noted of the places of a list in a book of a version, and of those that it hasn't."""
-    its = offer.wanted
-    places = (*offer.elsewhere, *offer.places)
-    return ChangeNote(
-        *(its.old, its.new, its.is_of_words, its.is_of_any_case, version),
-        tuple(noted(each.proposal, each.became) for each in places),
-    )
+    its = (*offer.elsewhere, *offer.places)
+    places = [(each.proposal, each.became) for each in its]
+    return note_of(offer.wanted, places, version)
 
 
 def answered_before(
     session: Session, drafts: Drafts, wanted: Replacement
 ) -> tuple[Place, ...]:
     """The places of words that were changed or left before the change of all was cut short."""
-    words = wanted.old, wanted.new
-    notes = [each for each in drafts.changes() if each.words == words]
-    places = [each for note in notes for each in places_of(session, note)]
-    return tuple(each for each in places if not each.is_open)
+    return tuple(_places_of(Further(session, drafts, wanted).answered))
 
 
-def places_of(session: Session, note: ChangeNote) -> list[Place]:
-    """The places of a note as they are now, as far as that is seen."""
+def _places_of(found: Iterable[tuple[Proposal, Became]]) -> list[Place]:
+    """Places by what became of them."""
     return [
         Place(
             its,
             is_left=became is Became.LEFT,
             was_changed=became is Became.CHANGED,
         )
-        for its, became in places_now(session, note)
+        for its, became in found
     ]
+
+
+def _came(answered: Iterable[Place]) -> list[Proposal]:
+    """The places that were changed."""
+    return [each.proposal for each in answered if each.became is Became.CHANGED]
 
 
 def _offer_of(
     wanted: Replacement, found: Sequence[Proposal], answered: Sequence[Place]
 ) -> ChangePlaces:
-    """Places that were found, without what was put in; those that were left before stay left."""
+    """Places that were found; those that were left before stay left."""
     left = {_where(each.proposal) for each in answered if each.is_left}
-    came = [each.proposal for each in answered if each.became is Became.CHANGED]
-    places = tuple(
-        Place(each, is_left=_where(each) in left)
-        for each in found
-        if not any(_share(each, other) for other in came)
-    )
+    places = tuple(Place(each, is_left=_where(each) in left) for each in found)
     there = {_where(each.proposal) for each in places}
     elsewhere = (each for each in answered if _where(each.proposal) not in there)
     return ChangePlaces(wanted, places, elsewhere=tuple(elsewhere))
@@ -256,14 +253,6 @@ def _offer_of(
 
 def _where(its: Proposal) -> tuple[int, str, Span]:
     return its.paragraph, its.text, its.place
-
-
-def _share(one: Proposal, other: Proposal) -> bool:
-    """Whether two places have a character in common."""
-    is_in_same = one.paragraph == other.paragraph
-    return is_in_same and (
-        one.place.start < other.place.stop and other.place.start < one.place.stop
-    )
 
 
 def _listed_from_open(state: State, offer: ChangePlaces) -> State:
@@ -366,7 +355,7 @@ def _all_changed(
                 back.append(requests.Undo(each.paragraph))
             tell(nth, len(places))
     except Interrupted:
-        said = _STOPPED
+        said = REST_STAYS
     if back:
         what = count.changed_in_words().removesuffix(".")
         deed = Deed(what, tuple(reversed(back)))

@@ -20,9 +20,9 @@ class Actions:
 
     def __init__(self, desk: Desk) -> None:
         files, marking, finding = Files(desk), Marking(desk), Finding(desk)
-        typed = Typed(desk, marking.noted)
+        typed, changing = Typed(desk, marking.noted), Changing(desk, finding)
         parts = (
-            *(files, typed, finding, Changing(desk, finding), Structure(desk)),
+            *(files, typed, finding, changing, Structure(desk)),
             *(Volumes(desk), Going(desk, finding), marking, View(desk)),
         )
         self.by_name: dict[str, Callable[[], None]] = {
@@ -32,7 +32,7 @@ class Actions:
             if hasattr(part, name)
         }
         #: Asks about what waits from before.
-        self.offer = Offers(desk, typed, files).offer
+        self.offer = Offers(desk, typed, files, changing).offer
         desk.window.dropped.connect(
             lambda path: desk.acting(lambda: files.imported(path))
         )

@@ -11,13 +11,8 @@ from typing import Any
 from braildesk import Displaced, Lost, Paragraph, Refused, Session, requests
 from braildesk.desk import search
 from braildesk.desk.change import Change
-from braildesk.desk.change_all import (
-    NotChanged,
-    Passed,
-    Proposal,
-    Replacement,
-    change_all,
-)
+from braildesk.desk.change_all import NotChanged, Passed, Proposal
+from braildesk.desk.changed_so_far import Further
 from braildesk.desk.correction import smallest_correction, with_typed
 from braildesk.desk.draft import Aim, Draft
 from braildesk.desk.find import alike
@@ -40,7 +35,7 @@ from braildesk.text.spans import Span
 
 from scribe.words import deeds, pagelook
 from scribe.words.aftermath import opened_again
-from scribe.words.change_all import Count
+from scribe.words.change_all import REST_STAYS, Count
 from scribe.words.deeds import Deed, kept
 from scribe.words.paragraph import counted, part_of, quoted
 from scribe.words.preview import Tables
@@ -108,6 +103,10 @@ class NotAll(Exception):
         super().__init__(done, cause)
         self.done = done
         self.cause = cause
+
+
+class _StoppedHere(Exception):
+    """A person stopped the changing of words before the next place."""
 
 
 class NothingToTakeBack(Exception):
@@ -379,17 +378,22 @@ class OpenBook:
 
     def changed_all(
         self,
-        wanted: Replacement,
+        further: Further,
+        found: Sequence[Proposal],
         chosen: Chosen,
         go_on: Callable[[int], bool],
         width: int,
     ) -> tuple[list[str], list[str]]:
         """Changes places of words, and gives what is said of all of them, and lines of each."""
+        wanted = further.wanted
         count, lines, places = Count(wanted), [], iter(chosen.places)
         backs: list[Command[Any]] = []
+        stopped = []
 
-        def is_wanted(found: Proposal) -> bool:
-            return go_on(count.changed) and next(places, chosen.is_of_rest)
+        def is_wanted(its: Proposal) -> bool:
+            if not go_on(count.changed):
+                raise _StoppedHere
+            return next(places, chosen.is_of_rest)
 
         def noted(
             found: Iterator[Change | NotChanged | Passed],
@@ -401,9 +405,11 @@ class OpenBook:
 
         begun = self._session.last_version
         try:
-            found = noted(change_all(self._session, wanted, is_wanted))
-            for its in count.lines(found, width):
+            changed = noted(further.changed(found, is_wanted))
+            for its in count.lines(changed, width):
                 lines += its
+        except _StoppedHere:
+            stopped.append(REST_STAYS)
         except Lost as lost:
             if lost.version != begun:
                 # what was done before would be taken back in the place of this
@@ -414,7 +420,7 @@ class OpenBook:
                 f"{quoted(wanted.old)} was replaced in {counted(len(backs), 'place')}"
             )
             self._deeds = (*self._deeds, Deed(what, tuple(backs)))
-        return list(count.sentences(self._session.last_version)), lines
+        return [*count.sentences(self._session.last_version), *stopped], lines
 
     def taken_back(self, report: Callable[[int, int], None]) -> Done:
         """Takes back what was done last in this window.

@@ -4,7 +4,8 @@ from collections.abc import Sequence
 from concurrent.futures import Future
 from functools import partial
 
-from braildesk.desk.change_all import Proposal, Replacement, proposals
+from braildesk.desk.change_all import Proposal, Replacement
+from braildesk.desk.changed_so_far import Further
 from braildesk.desk.correction import replaced
 from braildesk.desk.drafts import NotKept
 
@@ -14,7 +15,13 @@ from scribe.window.desk import Desk
 from scribe.window.dialogs import IsStopped, Say
 from scribe.window.finding import Finding
 from scribe.words.drafts import not_kept
-from scribe.words.change_all import how_many, nowhere, proposal_lines
+from scribe.words.change_all import (
+    NONE_LEFT,
+    cut_short,
+    how_many,
+    nowhere,
+    proposal_lines,
+)
 from scribe.words.paragraph import part_of, quoted
 from scribe.words.status import Stop
 
@@ -107,32 +114,44 @@ class Changing:
         if not old:
             raise Stop(f"No words to change were typed. {_NOTHING}")
         self._finding.seek(old)
-        wanted = Replacement(old, new, is_of_words, is_of_any_case, by=desk.book.by)
-        found = self._found(wanted)
-        chosen = self._chosen(wanted, found)
-        if chosen is None:
-            desk.say(_NOTHING)
-            return
-        self._do(wanted, chosen, len(found))
+        how = is_of_words, is_of_any_case
+        self.go_on(Replacement(old, new, *how, by=desk.book.by))
 
-    def _found(self, wanted: Replacement) -> Sequence[Proposal]:
+    def go_on(self, wanted: Replacement) -> None:
+        """Puts words in place of others wherever these stand and weren't changed before."""
+        further, found = self._found(wanted)
+        chosen = self._chosen(further, found)
+        if chosen is None:
+            self.desk.say(_NOTHING)
+            return
+        self._do(further, found, chosen)
+
+    def _found(self, wanted: Replacement) -> tuple[Further, Sequence[Proposal]]:
         """The places where the words stand."""
         desk = self.desk
 
-        def look(say: Say, is_stopped: IsStopped) -> Sequence[Proposal]:
+        def look(say: Say, is_stopped: IsStopped) -> tuple[Further, Sequence[Proposal]]:
             session = desk.book.session
-            found = proposals(session, wanted)
+            further = Further(session, desk.drafts, wanted)
+            found = further.found()
             if not found:
-                raise Stop(nowhere(session, wanted, ""))
-            return found
+                none_left = f"{NONE_LEFT} {_NOTHING}"
+                is_done = bool(further.answered)
+                raise Stop(none_left if is_done else nowhere(session, wanted, ""))
+            return further, found
 
         return dialogs.long(desk.window, desk.work, _TITLE, look)
 
-    def _chosen(self, wanted: Replacement, found: Sequence[Proposal]) -> Chosen | None:
+    def _chosen(self, further: Further, found: Sequence[Proposal]) -> Chosen | None:
         """Which places are changed; none where that is given up."""
         window, count = self.desk.window, len(found)
         front = "\n".join(proposal_lines(found[0], 1, count, _WIDTH))
-        asked = f"{how_many(wanted, found)} The first one:\n\n{front}"
+        before = [
+            cut_short(note, [became for _, became in places], " already")
+            for note, places in further.notes
+        ]
+        said = " ".join([*before, how_many(further.wanted, found)])
+        asked = f"{said} The first one:\n\n{front}"
         answer = dialogs.choice(window, _TITLE, asked, _OF_ALL)
         if answer == 2:
             return None
@@ -147,16 +166,16 @@ class Changing:
             wanted_places.append(answer == 0)
         return Chosen(tuple(wanted_places), False)
 
-    def _do(self, wanted: Replacement, chosen: Chosen, places: int) -> None:
+    def _do(self, further: Further, found: Sequence[Proposal], chosen: Chosen) -> None:
         """Changes the places, and reports what became of them."""
         desk = self.desk
 
         def act(say: Say, is_stopped: IsStopped) -> tuple[list[str], list[str]]:
             def go_on(changed: int) -> bool:
-                say(f"{part_of(changed, places, 'place')} changed.")
+                say(f"{part_of(changed, len(found), 'place')} changed.")
                 return not is_stopped()
 
-            return desk.book.changed_all(wanted, chosen, go_on, _WIDTH)
+            return desk.book.changed_all(further, found, chosen, go_on, _WIDTH)
 
         sentences, lines = dialogs.long(desk.window, desk.work, _TITLE, act)
         self._keep("", "")

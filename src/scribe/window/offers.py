@@ -1,15 +1,20 @@
 """What waits from before a book was opened: a text that was typed, and imports that were cut short."""
 
+from collections.abc import Sequence
 from pathlib import Path
 
+from braildesk.desk.change_note import Became, ChangeNote
+from braildesk.desk.changed_so_far import left_open, wanted_by
 from braildesk.desk.draft import Draft
 from braildesk.desk.drafts import NotKept
 from braildesk.desk.earlier import PartIsThere, to_go_on
 from braildesk.desk.unfinished import NotSeen, Unfinished
 
+from scribe.window.changing import Changing
 from scribe.window.desk import Desk
 from scribe.window.files import Files
 from scribe.window.typed import Typed
+from scribe.words.change_all import STAY, cut_short
 from scribe.words.drafts import (
     came_last,
     changed_since,
@@ -26,8 +31,11 @@ from scribe.words.paragraph import quoted
 class Offers:
     """Asks about what waits, at the opening."""
 
-    def __init__(self, desk: Desk, typed: Typed, files: Files) -> None:
+    def __init__(
+        self, desk: Desk, typed: Typed, files: Files, changing: Changing
+    ) -> None:
         self.desk = desk
+        self._changing = changing
         self._typed = typed
         self._files = files
 
@@ -67,6 +75,23 @@ class Offers:
                     desk.say(not_seen(each))
                 case NotKept():
                     desk.say(not_kept(each))
+        for note, places in desk.asked(
+            lambda: left_open(desk.book.session, desk.drafts)
+        ):
+            self._offer_change(note, [became for _, became in places])
+
+    def _offer_change(self, note: ChangeNote, now: Sequence[Became]) -> None:
+        """Asks about words of which not all places were changed."""
+        desk = self.desk
+        asked = f"{cut_short(note, now)} Shall the others be changed?"
+        answers = ("&Yes", "Leave the &rest", "&Later")
+        answer, aside = desk.offered("Change everywhere", asked, answers)
+        if answer == 0:
+            self._changing.go_on(wanted_by(note, desk.book.by))
+        elif answer == 1:
+            desk.drafts.end_change(note.old, note.new, note.ranges)
+            desk.say(STAY)
+        desk.say_too(aside)
 
     def _read(self) -> None:
         """Reads what waits from before."""

@@ -28,6 +28,9 @@ ANSWERS = (YES, NO, ALL, STOP)
 QUESTION = "Change it? Type yes, no, all or stop."
 #: The same in a word or two.
 SHORT_QUESTION = "yes, no, all or stop"
+REST_STAYS = "The rest stays as it was."
+STAY = "The other places stay as they are."
+NONE_LEFT = "There are no more places to change."
 
 
 @dataclass
@@ -148,7 +151,7 @@ def stopped_after(changed: int, places: int, version: int) -> str:
     )
 
 
-def cut_short(note: ChangeNote, now: Sequence[Became]) -> str:
+def cut_short(note: ChangeNote, now: Sequence[Became], already: str = "") -> str:
     """How far a change of words came that was cut short; of some places it may not be seen now."""
     what = f"Taking out {quoted(note.old)}"
     if note.new:
@@ -159,7 +162,7 @@ def cut_short(note: ChangeNote, now: Sequence[Became]) -> str:
     is_are = "is" if changed < 2 else "are"
     return (
         f"{what} was cut short: {least}{changed or 'none'} of {counted(len(places), 'place')}"
-        f" {is_are} changed."
+        f" {is_are} changed{already}."
     )
 
 

@@ -8,13 +8,10 @@ from functools import partial
 from typing import Any
 
 from braildesk import Session
-from braildesk.desk.change_all import (
-    Choice,
-    Proposal,
-    Replacement,
-    change_all,
-    proposals,
-)
+from braildesk.desk.change_all import Choice, Proposal, Replacement
+from braildesk.desk.change_note import Became
+from braildesk.desk.changed_so_far import Further
+from braildesk.desk.drafts import Drafts, NotKept
 
 from scribe.cli.book_command import BookCommand
 from scribe.cli.own_modules import hold_modules
@@ -23,18 +20,21 @@ from scribe.cli.parser import Parser, add_ranges, add_width, argument
 from scribe.prompt.conversation import Ended
 from scribe.prompt.typed_lines import GivenUp, Lines, PipedLines, TypedLines, are_typed
 from scribe.words.change_all import (
+    NONE_LEFT,
     QUESTION,
     SHORT_QUESTION,
     STOP,
     Asking,
     Count,
     answered,
+    cut_short,
     nowhere,
     proposal_lines,
     stopped_after,
     would_change,
 )
 from scribe.words.console import Console
+from scribe.words.drafts import not_kept
 from scribe.words.status import Interrupted, Status, Stop
 from scribe.words.typed import InvalidInput, text, words
 
@@ -101,18 +101,28 @@ def answer(session: Session, arguments: Namespace, console: Console) -> Status:
         arguments.paragraphs,
         arguments.by,
     )
-    found: list[Proposal] = []
+    drafts, found, before = Drafts(arguments.file), list[Proposal](), list[Became]()
+    drafts.adopt()
 
     def so_far(changed: int, version: int) -> str:
-        return stopped_after(changed, len(found), version)
+        already = before.count(Became.CHANGED)
+        return stopped_after(changed + already, len(found) + already, version)
 
     with said_where_stopped(session, arguments, console, so_far):
-        found += proposals(session, wanted)
+        further = Further(session, drafts, wanted)
+        before += (became for _, became in further.answered)
+        found += further.found()
+        for note, places in further.notes:
+            console.say(cut_short(note, [became for _, became in places], " already"))
+        if not found and before:
+            console.say(NONE_LEFT)
+            return Status.DONE
         if not found:
             raise Stop(nowhere(session, wanted, _OFFER))
         if arguments.dry_run:
             return _shown(wanted, found, console)
-        return _changed(session, wanted, _choice(arguments, found, console), console)
+        choice = _choice(arguments, found, console)
+        return _changed(session, further, found, choice, console)
 
 
 def _shown(wanted: Replacement, found: list[Proposal], console: Console) -> Status:
@@ -124,11 +134,20 @@ def _shown(wanted: Replacement, found: list[Proposal], console: Console) -> Stat
 
 
 def _changed(
-    session: Session, wanted: Replacement, choice: Choice, console: Console
+    session: Session,
+    further: Further,
+    found: list[Proposal],
+    choice: Choice,
+    console: Console,
 ) -> Status:
     """Replaces the words, and shows each place that was changed."""
-    count = Count(wanted)
-    for lines in count.lines(change_all(session, wanted, choice), console.columns):
+
+    def report(fault: NotKept) -> None:
+        console.say(not_kept(fault))
+
+    count = Count(further.wanted)
+    changed = further.changed(found, choice, report)
+    for lines in count.lines(changed, console.columns):
         console.show(*lines)
     console.say(*count.sentences(session.last_version))
     return Status.REFUSED if count.refused else Status.DONE
