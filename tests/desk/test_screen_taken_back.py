@@ -6,8 +6,8 @@ import pytest
 
 from braildesk import Session
 from sitting import Sat, Sit
-from stand_in import ANSWERED, KILL_PROGRAM, READ, REPLY
-from terminal import standing_in
+from stand_in import ANSWERED, KEPT, KILL_PROGRAM, KILL_SCRIBE, READ, REPLY
+from terminal import Open, once_free, standing_in
 
 #: Keys, what `u` says after them, and what the chosen paragraph or the book is then as before.
 DEEDS = {
@@ -340,3 +340,23 @@ def test_a_refusal_leaves_what_can_be_taken_back(
     assert "memory" in sat.state.message
     sat.press("u")
     assert sat.state.message == "Taken back: paragraph 1 was struck."
+
+
+def test_how_far_the_taking_back_came_is_said_at_the_next_opening(
+    moon: Path, at: Open, sit: Sit
+) -> None:
+    # three places are changed, and the second is taken back as the session ends
+    terminal = at(moon, **standing_in(5, KEPT, KILL_SCRIBE))
+    terminal.wait("? shows the keys.")
+    terminal.keys("c", "o", "enter", "u", "enter")
+    terminal.wait("3 places of")
+    terminal.keys("a")
+    terminal.wait("Changed.")
+    terminal.keys("escape", "u", "y")
+    terminal.ended()
+    once_free(moon).close()
+    said = "Taking back 3 changes was cut short: at most 2 of them were taken back."
+    for is_said in (True, False):
+        sat = sit(moon)
+        assert (said in sat.state.message) is is_said
+        sat.desk.close()

@@ -384,10 +384,27 @@ def test_words_whose_change_was_cut_short_are_asked_about_until_all_are_changed_
         ]
         assert Drafts(desk.path).changes() == ()
         given["choices"] = [0, 1]
+        version, notes = desk.contents.version, list[object]()
+        monkeypatch.setattr(
+            dialogs,
+            "long",
+            lambda over, worker, title, act: long(
+                *(over, worker, title),
+                lambda _, is_stopped: act(
+                    lambda _: notes.append(desk.drafts.taken_back()), is_stopped
+                ),
+            ),
+        )
         desk.act("take_back")
+        assert notes == [(version, 2)] * 2 and desk.drafts.taken_back() is None
+        # as the next opening finds it where that was killed
+        desk.drafts.take_back(version, 7)
         desk.drafts.begin_change(note)
         desk.acting(Actions(desk).offer)
-        assert desk.window.message.text == "The other places stay as they are."
+        assert desk.window.message.text == (
+            "The other places stay as they are. Taking back 7 changes was cut short: at most 2 of"
+            " them were taken back."
+        )
         assert Drafts(desk.path).changes() == ()
 
 

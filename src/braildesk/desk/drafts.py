@@ -64,6 +64,7 @@ class Begun(Enum):
     ANSWERS = "answers"
     LINES = "lines"
     CHANGES = "changes"
+    BACK = "back"
 
 
 @dataclass(frozen=True, eq=False, repr=False)
@@ -265,6 +266,27 @@ class Drafts:
         others = self._other_changes(old, new, ranges)
         if len(others) < len(self.changes()):
             self._note_changes(others)
+
+    def taken_back(self) -> tuple[int, int] | None:
+        """At which version many changes were begun to be taken back, and how many, until all are.
+
+        What can't be read is no fault.
+        """
+        try:
+            data = self._folder.read(self._name(Begun.BACK))
+            if data is None:
+                return None
+            kept = Record.of(data)
+            return kept.number("version"), kept.number("count")
+        except (NotSuch, OSError):
+            return None
+
+    def take_back(self, version: int, count: int) -> None:
+        """Notes how many changes are to be taken back; nothing is noted any more of none."""
+        if count:
+            self._write(Begun.BACK, {"version": version, "count": count})
+        else:
+            self._remove(Begun.BACK)
 
     def answers(self) -> dict[str, str]:
         """What was last typed where something is asked, by its name; what can't be read is no fault."""

@@ -107,7 +107,13 @@ from scribe.words.aftermath import found_again
 from scribe.words.change_all import STAY
 from scribe.words.changes import not_given
 from scribe.words.deeds import Deed, kept
-from scribe.words.drafts import Unsent, came_last, not_kept, where_typed
+from scribe.words.drafts import (
+    Unsent,
+    came_last,
+    not_kept,
+    taken_back_in_part,
+    where_typed,
+)
 from scribe.words.paragraph import counted, part_of, quoted
 from scribe.words.preview import Preview, Tables
 from scribe.words.status import Interrupted, Stop, in_sentences, of_system
@@ -212,7 +218,8 @@ class Desk:
         state = elsewhere(state, self._offered(state, self._unsent.waiting))
         state = reminded(self.drafts, self._session, state)
         state = with_changes(self.drafts, self._session, state)
-        return refreshed(self._session, state)
+        back = taken_back_in_part(self.drafts, state.version)
+        return refreshed(self._session, state.saying_too(back))
 
     def press(self, state: State, key: str) -> State:
         """The state after a key, once what it asks for was answered."""
@@ -757,6 +764,7 @@ class Desk:
         deed = state.deeds[-1]
         said, done, count = deed.sentence, 0, len(deed.back)
         begun = state.version
+        self._note_back(state, count)
         try:
             for command in deed.back:
                 self._check()
@@ -767,14 +775,24 @@ class Desk:
                 state = replace(state, version=version, kept=kept(asked, answer))
                 report(f"{done:,} of {count:,} done.")
         except Lost as lost:
+            self._note_back(state, 0)
             return self._after_loss(so_far(state, done), lost, begun)
         except Refused as refused:
             said = f"{done:,} of {count:,} done. {refused.reason}"
-        except Interrupted:
+        except Interrupted as stop:
             said = f"{done:,} of {count:,} done."
+            if stop.number is not signal.SIGINT:
+                # nobody reads it any more
+                return so_far(state, done).saying(said)
+        self._note_back(state, 0)
         book = self._session.paragraphs()
         state = replace(state, book=book, openings={}, reading=None, highlighted=None)
         return self._drawn(so_far(state, done).saying(said))
+
+    def _note_back(self, state: State, count: int) -> None:
+        """Notes how many changes are to be taken back, or that nobody has to hear how many were."""
+        with suppress(NotKept):
+            self.drafts.take_back(state.version, count)
 
     def _changed(self, state: State, number: int | None, before: State) -> State:
         """The state after a paragraph was changed, with that one chosen."""

@@ -19,6 +19,7 @@ from scribe.words.drafts import (
     came_last,
     changed_since,
     not_kept,
+    taken_back_in_part,
     what_for,
     without_paragraph,
     where_typed,
@@ -79,6 +80,7 @@ class Offers:
             lambda: left_open(desk.book.session, desk.drafts)
         ):
             self._offer_change(note, [became for _, became in places])
+        desk.say_too(taken_back_in_part(desk.drafts, desk.contents.version))
 
     def _offer_change(self, note: ChangeNote, now: Sequence[Became]) -> None:
         """Asks about words of which not all places were changed."""

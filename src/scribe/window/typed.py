@@ -52,7 +52,18 @@ class Typed:
                 if is_stopped():
                     raise Interrupted(signal.SIGINT)
 
-            return desk.book.taken_back(report)
+            deed, version = desk.book.last_deed, desk.book.session.last_version
+            if deed is None or len(deed.back) < 2:
+                return desk.book.taken_back(report)
+            with suppress(NotKept):
+                desk.drafts.take_back(version, len(deed.back))
+            try:
+                return desk.book.taken_back(report)
+            finally:
+                # else nobody reads how far it came
+                if not desk.is_ending:
+                    with suppress(NotKept):
+                        desk.drafts.take_back(version, 0)
 
         try:
             desk.show_done(dialogs.long(desk.window, desk.work, "Take back", act))

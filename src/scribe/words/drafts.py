@@ -29,7 +29,26 @@ _BEGUN = {
     Begun.ANSWERS: "What is typed as an answer",
     Begun.LINES: "What is typed at the prompt",
     Begun.CHANGES: "How far the change of words comes",
+    Begun.BACK: "How far the taking back comes",
 }
+
+
+def taken_back_in_part(drafts: Drafts, version: int) -> str:
+    """How far the taking back of many changes came that was cut short, in a book of a version.
+
+    Something else may have changed the book since. It is said once, or nothing if nothing is known.
+    """
+    begun, count = drafts.taken_back() or (version, 0)
+    done = version - begun
+    # an older file may be there for a while, as one from a backup
+    if not count or done < 0:
+        return ""
+    with suppress(NotKept):
+        drafts.take_back(version, 0)
+    if done >= count:
+        return ""
+    most = f"at most {done:,} of them were" if done else "none of them was"
+    return f"Taking back {count:,} changes was cut short: {most} taken back."
 
 
 def what_for(draft: Draft) -> str:
