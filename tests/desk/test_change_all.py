@@ -375,6 +375,32 @@ def test_what_was_cut_short_in_some_paragraphs_stays_noted_while_others_are_chan
     assert Drafts(tides).changes() == ()
 
 
+def test_where_it_is_not_seen_what_was_changed_each_place_is_to_be_looked_at(
+    tides: Path, sit: Sit
+) -> None:
+    killed(tides, "change-all", "tide", "tides")
+    # the print is as long as it was at first
+    assert scribe("change", tides, "2", "and", "or", folder=tides.parent).status == 0
+    said = "Changing “tide” to “tides” was cut short: at least 1 of 5 places is changed"
+    sat = sit(tides)
+    assert sat.state.question and sat.state.question.sentence.startswith(said)
+    sat.desk.close()
+    assert changed(tides, "tide", "tides") == Ran(
+        2,
+        "",
+        f"{said} already.\nParagraph 2 was changed otherwise since, so it isn't seen which of its"
+        " places are changed. --ask shows each place. Nothing was changed.\n",
+    )
+    assert changed(tides, "tide", "tides", "--ask", given="no\nall\n").status == 0
+    assert prints(tides)[:3] == ["The tides", "a tides or tides", "tidess of tides"]
+    assert Drafts(tides).changes() == ()
+    # where nothing is seen, it isn't said how many were
+    killed(tides, "change-all", "of", "off", at=1)
+    assert scribe("change", tides, "3", "off", "oft", folder=tides.parent).status == 0
+    said = "Changing “of” to “off” was cut short, and it isn't seen how far it came.\n"
+    assert changed(tides, "of", "off", "--dry-run").said.startswith(said)
+
+
 def test_a_place_that_shares_letters_with_a_changed_one_goes_on(tides: Path) -> None:
     killed(tides, "change-all", "  ", " ", at=1)
     assert " 1 of 2 places is " in changed(tides, "  ", " ").said

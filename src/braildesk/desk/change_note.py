@@ -28,6 +28,9 @@ class NotedPlace(Value):
     start: int
     words: str
     became: Became
+    #: What stands beside the words, up to the next place, by which it is seen that no others do.
+    before: str = ""
+    after: str = ""
 
 
 @dataclass(frozen=True, eq=False, repr=False)
@@ -63,6 +66,8 @@ class ChangeNote(Value):
                     "start": each.start,
                     "words": each.words,
                     "became": each.became.value,
+                    "before": each.before,
+                    "after": each.after,
                 }
                 for each in self.places
             ],
@@ -97,4 +102,6 @@ def _place_in(kept: Record) -> NotedPlace:
         kept.number("start"),
         kept.text("words"),
         became,
+        kept.text("before"),
+        kept.text("after"),
     )

@@ -3,6 +3,7 @@
 from collections.abc import Callable, Iterable, Iterator, Sequence
 from contextlib import suppress
 from dataclasses import replace
+from itertools import groupby
 
 from braildesk import Session
 from braildesk.desk.change import Change
@@ -21,6 +22,8 @@ from braildesk.desk.readings import prints
 from braildesk.text.sequences import composed
 from braildesk.text.spans import Span
 
+# so many characters beside a place are noted
+_BESIDE = 8
 #: Places as they are now, each with what became of it.
 PlacesNow = list[tuple[Proposal, Became]]
 
@@ -35,9 +38,14 @@ def note_of(
     wanted: Replacement, places: Iterable[tuple[Proposal, Became]], version: int
 ) -> ChangeNote:
     """What is noted of words in a book of a version, before more of their places are changed."""
+    found = sorted(places, key=lambda each: (each[0].paragraph, each[0].place.start))
     return ChangeNote(
         *(wanted.old, wanted.new, wanted.is_of_words, wanted.is_of_any_case, version),
-        tuple(_noted(its, became) for its, became in places),
+        tuple(
+            noted
+            for _, its in groupby(found, key=lambda each: each[0].paragraph)
+            for noted in _noted(list(its))
+        ),
         wanted.ranges,
     )
 
@@ -118,11 +126,18 @@ class Further:
         return [its for its, what in self.answered if what is became]
 
 
-def _noted(its: Proposal, became: Became) -> NotedPlace:
-    """What is noted of a place that is as it was proposed."""
-    start, stop = its.place.start, its.place.stop
-    words = its.text[start:stop]
-    return NotedPlace(its.paragraph, len(its.text), start, words, became)
+def _noted(places: PlacesNow) -> Iterator[NotedPlace]:
+    """What is noted of the places of a paragraph, which are as they were proposed."""
+    starts = [its.place.start for its, _ in places[1:]]
+    front = 0
+    for (its, became), end in zip(places, [*starts, None]):
+        text, start, stop = its.text, its.place.start, its.place.stop
+        before, after = text[front:start][-_BESIDE:], text[stop:end][:_BESIDE]
+        words = text[start:stop]
+        yield NotedPlace(
+            *(its.paragraph, len(text), start, words, became, before, after)
+        )
+        front = stop
 
 
 def places_now(session: Session, note: ChangeNote) -> PlacesNow:
@@ -159,7 +174,9 @@ def _as_now(
         steps: dict[int, tuple[int, NotedPlace]] = {}
         for kind in kinds:
             for by in moves:
-                if text.startswith(kind.words, each.start + by):
+                front = each.start + by - len(each.before)
+                whole = each.before + kind.words + each.after
+                if front >= 0 and text.startswith(whole, front):
                     after = by + len(kind.words) - len(each.words)
                     steps.setdefault(after, (by, kind))
         ways.append(steps)

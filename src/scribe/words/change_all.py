@@ -159,6 +159,8 @@ def cut_short(note: ChangeNote, now: Sequence[Became], already: str = "") -> str
     places = [each for each in note.places if each.became is not Became.LEFT]
     changed = now.count(Became.CHANGED)
     least = "at least " if len(now) < len(note.places) else ""
+    if least and not changed:
+        return f"{what} was cut short, and it isn't seen how far it came."
     is_are = "is" if changed < 2 else "are"
     return (
         f"{what} was cut short: {least}{changed or 'none'} of {counted(len(places), 'place')}"

@@ -121,8 +121,23 @@ def answer(session: Session, arguments: Namespace, console: Console) -> Status:
             raise Stop(nowhere(session, wanted, _OFFER))
         if arguments.dry_run:
             return _shown(wanted, found, console)
+        if not arguments.ask:
+            _judge_seen(further, found)
         choice = _choice(arguments, found, console)
         return _changed(session, further, found, choice, console)
+
+
+def _judge_seen(further: Further, found: list[Proposal]) -> None:
+    """Refuses to change a place that may have been changed before."""
+    for note, places in further.notes:
+        seen = {its.paragraph for its, _ in places}
+        unseen = {each.paragraph for each in note.places} - seen
+        for each in found:
+            if each.paragraph in unseen:
+                raise Stop(
+                    f"Paragraph {each.paragraph} was changed otherwise since, so it isn't seen which"
+                    " of its places are changed. --ask shows each place. Nothing was changed."
+                )
 
 
 def _shown(wanted: Replacement, found: list[Proposal], console: Console) -> Status:
