@@ -320,14 +320,11 @@ def tides(empty_book: Path) -> Path:
     return empty_book
 
 
-def killed(book: Path, *words: str, at: int = 2, given: str = "") -> None:
+def killed(book: Path, name: str, *words: str, at: int = 2, given: str = "") -> None:
     """Changes words until scribe is killed once a command is kept."""
-    name, *others = words
+    its = standing_in(at, KEPT, KILL_SCRIBE)
     ran = scribe(
-        *(name, book, *others),
-        folder=book.parent,
-        given=given,
-        **standing_in(at, KEPT, KILL_SCRIBE),
+        name, book, *words, folder=book.parent, given=given, before=None, **its
     )
     assert ran.status == -signal.SIGKILL
     once_free(book).close()

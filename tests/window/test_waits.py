@@ -350,7 +350,7 @@ def test_words_whose_change_was_cut_short_are_asked_about_until_all_are_changed_
 ) -> None:
     given["fields"] = ["o", "oo"], [False, False]
     given["choices"] = [0]
-    long = dialogs.long
+    long: Callable[..., object] = dialogs.long
     with opened(moment) as desk:
         if not moment:
             # a person stops it before the third place
