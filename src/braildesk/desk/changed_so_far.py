@@ -89,12 +89,14 @@ class Further:
             if note.is_of(wanted.old, wanted.new, note.ranges)
         ]
         #: The places that were changed or left before.
-        self.answered = {
-            (its.paragraph, its.place): (its, became)
-            for _, places in self.notes
-            for its, became in places
-            if became is not Became.OPEN
-        }.values()
+        self.answered: PlacesNow = []
+        for _, places in self.notes:
+            known = {(its.paragraph, its.place) for its, _ in self.answered}
+            self.answered += [
+                (its, became)
+                for its, became in places
+                if became is not Became.OPEN and (its.paragraph, its.place) not in known
+            ]
 
     def found(self) -> list[Proposal]:
         """The places that are to be changed."""
