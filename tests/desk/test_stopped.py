@@ -10,6 +10,7 @@ import pytest
 
 from braildesk import Session
 import braildesk
+from braildesk.desk.drafts import Drafts
 from braildesk.desk.export import Job
 from braildesk.desk.layout import PageSize
 
@@ -323,5 +324,7 @@ def test_a_taking_back_of_the_screen_ends_at_a_signal_and_says_how_far_it_came(
     queue.write_bytes(b"")
     assert terminal.ended() == -signal.SIGTERM
     assert terminal.said == "2 of 3 done.\n"
+    # the next opening says it too
+    assert (Drafts(book).taken_back() or (0, 0))[1] == 3
     with once_free(book) as session:
         assert [each.struck for each in session.paragraphs()].count(True) == 2

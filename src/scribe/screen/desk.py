@@ -779,11 +779,9 @@ class Desk:
             return self._after_loss(so_far(state, done), lost, begun)
         except Refused as refused:
             said = f"{done:,} of {count:,} done. {refused.reason}"
-        except Interrupted as stop:
-            said = f"{done:,} of {count:,} done."
-            if stop.number is not signal.SIGINT:
-                # nobody reads it any more
-                return so_far(state, done).saying(said)
+        except Interrupted:
+            # nobody may read it, so it is said at the next opening too
+            return so_far(state, done).saying(f"{done:,} of {count:,} done.")
         self._note_back(state, 0)
         book = self._session.paragraphs()
         state = replace(state, book=book, openings={}, reading=None, highlighted=None)
