@@ -395,17 +395,9 @@ class OpenBook:
                 raise _StoppedHere
             return next(places, chosen.is_of_rest)
 
-        def noted(
-            found: Iterator[Change | NotChanged | Passed],
-        ) -> Iterator[Change | NotChanged | Passed]:
-            for each in found:
-                if isinstance(each, Change):
-                    backs.insert(0, requests.Undo(each.paragraph))
-                yield each
-
         begun = self._session.last_version
         try:
-            changed = noted(further.changed(found, is_wanted))
+            changed = _with_backs(further.changed(found, is_wanted), backs)
             for its in count.lines(changed, width):
                 lines += its
         except _StoppedHere:
@@ -698,3 +690,13 @@ class OpenBook:
             case requests.Retable():
                 return replace(its, table=command.table)
         return None
+
+
+def _with_backs(
+    found: Iterator[Change | NotChanged | Passed], backs: list[Command[Any]]
+) -> Iterator[Change | NotChanged | Passed]:
+    """What became of places, each with what takes it back put before that of the others."""
+    for each in found:
+        if isinstance(each, Change):
+            backs.insert(0, requests.Undo(each.paragraph))
+        yield each

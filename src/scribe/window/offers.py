@@ -76,6 +76,11 @@ class Offers:
                     desk.say(not_seen(each))
                 case NotKept():
                     desk.say(not_kept(each))
+        self._offer_changes()
+
+    def _offer_changes(self) -> None:
+        """Asks about words whose change was cut short, and says how far a taking back came that was."""
+        desk = self.desk
         for note, places in desk.asked(
             lambda: left_open(desk.book.session, desk.drafts)
         ):
