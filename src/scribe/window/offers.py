@@ -1,4 +1,4 @@
-"""What waits from before a book was opened: a text that was typed, and imports that were cut short."""
+"""What waits from before a book was opened: a text that was typed, and what was cut short."""
 
 from collections.abc import Sequence
 from pathlib import Path
