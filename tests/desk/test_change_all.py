@@ -410,6 +410,21 @@ def test_a_place_that_shares_letters_with_a_changed_one_goes_on(tides: Path) -> 
         "Taking out “  ” was cut short: 1 of 1 place is changed already.\n"
         "There are no more places to change.\n",
     )
+    assert Drafts(tides).changes() == ()
+
+
+def test_what_was_noted_of_another_book_at_the_path_is_not_said_of_this_one(
+    tides: Path,
+) -> None:
+    another = tides.with_name("another")
+    shutil.copyfile(tides, another)
+    with Session(another) as session:
+        for number in range(1, 4):
+            session.correct(number, 0, 0, "So, ")
+    killed(tides, "change-all", "tide", "tides")
+    another.replace(tides)
+    ran = changed(tides, "tide", "tides", "--in", "1")
+    assert ran.said.startswith("“tide” was replaced by “tides” in 1 place of 1 para")
 
 
 def stopped_after_two(

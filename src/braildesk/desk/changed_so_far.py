@@ -71,8 +71,12 @@ def _noted_now(
 ) -> Iterator[tuple[ChangeNote, PlacesNow]]:
     for note in drafts.changes():
         # an older file may be there for a while, as one from a backup
-        if session.last_version >= note.version:
-            yield note, places_now(session, note)
+        if session.last_version < note.version:
+            continue
+        places = places_now(session, note)
+        # nothing of it may be there since that is another book
+        if places or drafts.has_changes_of_file():
+            yield note, places
 
 
 class Further:

@@ -254,6 +254,15 @@ class Drafts:
         except (NotSuch, OSError):
             return ()
 
+    def has_changes_of_file(self) -> bool:
+        """Whether such words were noted for the file at the path, and not for one that was there before."""
+        identity = identity_of(self.book)
+        try:
+            kept = Record.of(self._folder.read(self._name(Begun.CHANGES)) or b"")
+            return identity is not None and identity.is_in(kept)
+        except (NotSuch, OSError):
+            return False
+
     def begin_change(self, note: ChangeNote) -> None:
         """Notes words before the first place is changed, in place of what was noted of them."""
         others = self._other_changes(note.old, note.new, note.ranges)

@@ -5,7 +5,7 @@ from concurrent.futures import Future
 from functools import partial
 
 from braildesk.desk.change_all import Proposal, Replacement
-from braildesk.desk.changed_so_far import Further
+from braildesk.desk.changed_so_far import Further, left_open
 from braildesk.desk.correction import replaced
 from braildesk.desk.drafts import NotKept
 
@@ -134,10 +134,12 @@ class Changing:
             session = desk.book.session
             further = Further(session, desk.drafts, wanted)
             found = further.found()
+            if not found and further.answered:
+                # what is noted of places that are all done is taken away
+                left_open(session, desk.drafts)
+                raise Stop(f"{NONE_LEFT} {_NOTHING}")
             if not found:
-                none_left = f"{NONE_LEFT} {_NOTHING}"
-                is_done = bool(further.answered)
-                raise Stop(none_left if is_done else nowhere(session, wanted, ""))
+                raise Stop(nowhere(session, wanted, ""))
             return further, found
 
         return dialogs.long(desk.window, desk.work, _TITLE, look)

@@ -10,7 +10,7 @@ from typing import Any
 from braildesk import Session
 from braildesk.desk.change_all import Choice, Proposal, Replacement
 from braildesk.desk.change_note import Became
-from braildesk.desk.changed_so_far import Further
+from braildesk.desk.changed_so_far import Further, left_open
 from braildesk.desk.drafts import Drafts, NotKept
 
 from scribe.cli.book_command import BookCommand
@@ -115,6 +115,8 @@ def answer(session: Session, arguments: Namespace, console: Console) -> Status:
         for note, places in further.notes:
             console.say(cut_short(note, [became for _, became in places], " already"))
         if not found and before:
+            # what is noted of places that are all done is taken away
+            left_open(session, drafts)
             console.say(NONE_LEFT)
             return Status.DONE
         if not found:
