@@ -10,7 +10,7 @@ import fcntl
 import os
 import stat
 import struct
-from collections.abc import Iterator
+from collections.abc import Callable, Iterator
 from contextlib import contextmanager, suppress
 from dataclasses import dataclass
 from pathlib import Path
@@ -209,10 +209,10 @@ def put(made: Path, target: Place, like: os.stat_result) -> None:
 
     ``Swapped`` if another file than that which is like this gets the name, or has it right after.
     """
-    with _folder_of(made) as folder, _known(folder, made.name, like) as file:
+    with _folder_of(made) as folder, _known(folder, made.name, like) as judge:
         try:
             _rename(folder, made.name, target)
-            target.judge(file)
+            judge(target)
         except OSError as error:
             if error.errno not in _NOT_KNOWN:
                 raise
@@ -228,7 +228,7 @@ def put_over(made: Path, target: Place, like: os.stat_result) -> None:
     """
     log, aside = target.beside("-wal").name, f"{made.name}-wal"
     is_aside = True
-    with _folder_of(made) as folder, _known(folder, made.name, like) as file:
+    with _folder_of(made) as folder, _known(folder, made.name, like) as judge:
         try:
             # it belongs to the older file, and would damage the new one
             os.replace(log, aside, src_dir_fd=target.folder, dst_dir_fd=folder)
@@ -242,7 +242,7 @@ def put_over(made: Path, target: Place, like: os.stat_result) -> None:
             if is_aside:
                 os.replace(aside, log, src_dir_fd=folder, dst_dir_fd=target.folder)
             raise
-        target.judge(file)
+        judge(target)
     _sync_folder(target)
 
 
@@ -361,11 +361,13 @@ def copy_bytes(source: int, target: int) -> None:
 
 
 @contextmanager
-def _known(folder: int, name: str, like: os.stat_result) -> Iterator[int]:
-    """What a file that was made is known by, also once it has another name.
+def _known(
+    folder: int, name: str, like: os.stat_result
+) -> Iterator[Callable[[Place], None]]:
+    """What judges whether a file that was made has the place that it was given (``Swapped``).
 
-    ``Swapped`` if another one is at its place. It isn't opened, which might keep it from getting
-    that name.
+    ``Swapped`` if another one has its old place. It isn't opened, which might keep it from getting
+    its name.
     """
     flags = os.O_PATH | os.O_NOFOLLOW | os.O_CLOEXEC
     try:
@@ -373,11 +375,34 @@ def _known(folder: int, name: str, like: os.stat_result) -> Iterator[int]:
     except FileNotFoundError as error:
         raise Swapped from error
     try:
-        if not is_same(os.fstat(file), like):
+        before = os.fstat(file)
+        if not is_same(before, like):
             raise Swapped
-        yield file
+        yield lambda place: _judge_renamed(file, before, place)
     finally:
         os.close(file)
+
+
+def _judge_renamed(file: int, before: os.stat_result, place: Place) -> None:
+    """Raises ``Swapped`` unless a file has the place that it was given.
+
+    By its new name a file system of FUSE may have it for another file, and this one for gone. Then it
+    is known by its owner, its size and the time when it was written.
+    """
+    with suppress(OSError):
+        if place.has(file):
+            return
+    try:
+        found = os.stat(place.name, dir_fd=place.folder, follow_symlinks=False)
+    except OSError as error:
+        raise Swapped from error
+    if _traits(found) != _traits(before):
+        raise Swapped
+
+
+def _traits(found: os.stat_result) -> tuple[int, ...]:
+    kind, owner = stat.S_IFMT(found.st_mode), found.st_uid
+    return found.st_dev, kind, owner, found.st_size, found.st_mtime_ns
 
 
 @contextmanager

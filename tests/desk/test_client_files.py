@@ -815,6 +815,60 @@ def test_where_a_file_system_still_counts_a_name_that_is_gone_a_copy_may_be_open
     assert len(braildesk.read_tables(to)) == 1
 
 
+@pytest.mark.parametrize("is_gone", [True, False])
+def test_where_a_file_has_another_number_by_its_new_name_it_is_known_by_what_it_has(
+    book: Path, tmp_path: Path, monkeypatch: pytest.MonkeyPatch, is_gone: bool
+) -> None:
+    rename, replace = workshop._rename, os.replace
+    look, look_by_name = os.fstat, os.stat
+    moved: set[int] = set()
+    others: list[Path] = []
+
+    def note(name: str, folder: int) -> None:
+        moved.add(look_by_name(name, dir_fd=folder).st_ino)
+        for other in others:
+            replace(other, name, dst_dir_fd=folder)
+
+    def renamed(folder: int, name: str, target: workshop.Place) -> None:
+        rename(folder, name, target)
+        note(target.name, target.folder)
+
+    def replaced(name: str, other: str, src_dir_fd: int, dst_dir_fd: int) -> None:
+        replace(name, other, src_dir_fd=src_dir_fd, dst_dir_fd=dst_dir_fd)
+        note(other, dst_dir_fd)
+
+    def looked(file: int) -> os.stat_result:
+        found = look(file)
+        if is_gone and found.st_ino in moved:
+            raise FileNotFoundError(errno.ENOENT, os.strerror(errno.ENOENT))
+        return found
+
+    def looked_by_name(*words: Any, **more: Any) -> os.stat_result:
+        found = look_by_name(*words, **more)
+        if found.st_ino not in moved:
+            return found
+        # as of FUSE, where the path of a file may make its number
+        number, times = found.st_ino + 2**40, {"st_mtime_ns": found.st_mtime_ns}
+        return os.stat_result((found[0], number, *found[2:]), times)
+
+    monkeypatch.setattr(workshop, "_rename", renamed)
+    monkeypatch.setattr(os, "replace", replaced)
+    monkeypatch.setattr(os, "fstat", looked)
+    monkeypatch.setattr(os, "stat", looked_by_name)
+    begun, filled, to = tmp_path / "begun", tmp_path / "filled", tmp_path / "copied"
+    filled.touch()
+    braildesk.new_book(begun)
+    braildesk.new_book(filled)
+    assert braildesk.copy(book, to) == 1
+    moved.clear()
+    assert braildesk.copy(book, to, overwrite=True) == 1
+    moved.clear()
+    others.append(tmp_path / "other")
+    others[0].write_bytes(to.read_bytes())
+    with pytest.raises(Failed):
+        braildesk.copy(book, to, overwrite=True)
+
+
 @pytest.mark.parametrize("number", [errno.EPERM, errno.ENOSYS, errno.EOPNOTSUPP])
 def test_where_a_file_system_has_no_links_either_a_copy_is_made_and_replaces_nothing(
     book: Path, tmp_path: Path, monkeypatch: pytest.MonkeyPatch, number: int
