@@ -92,7 +92,9 @@ def _fence(asked: AskedOfFile) -> int | None:
         return None
     for descriptor, may in _let_through(asked):
         rule = _RULE.pack(may & rights, descriptor)
-        library.syscall(_ADD_RULE, fence, _RULE_OF_PATH, rule, 0)
+        if library.syscall(_ADD_RULE, fence, _RULE_OF_PATH, rule, 0):
+            os.close(fence)
+            return None
     return fence
 
 

@@ -1572,6 +1572,17 @@ def test_a_folder_put_in_place_of_the_one_of_a_copy_leads_the_program_nowhere(
 
 
 @NEEDS_FENCE
+def test_a_book_is_opened_where_the_system_keeps_the_program_to_no_file(
+    book: Path, tmp_path: Path, monkeypatch: pytest.MonkeyPatch
+) -> None:
+    tmp_path.chmod(0o777)
+    monkeypatch.setattr(fenced, "_RULE_OF_PATH", 99)
+    with Session(book) as session:
+        session.add_paragraph("end", "en", "as before")
+    assert braildesk.check(book) == 2
+
+
+@NEEDS_FENCE
 def test_what_is_begun_where_others_may_write_is_ended_by_ctrl_c(
     book: Path, tmp_path: Path
 ) -> None:
