@@ -52,6 +52,9 @@ _OF_PLACE = (Why.NO_ROOM, Why.OVER_QUOTA, Why.READ_ONLY, Why.DENIED)
 _Replaces = Callable[[BinaryIO], bool]
 #: How the names end of what a program may look for beside a book.
 _BESIDE = ("-wal", "-shm", "-journal")
+#: What is said where a file may be written, and none may be put in its place: a mount, or a folder in
+#: which nothing may be made.
+_MAY_NOT_BE_REPLACED = (errno.EPERM, errno.EACCES, errno.EBUSY)
 #: What may be of a file whose folder isn't on the disk yet.
 _GONE, _OLDER = "it may be gone", "the older file may be there"
 
@@ -154,8 +157,9 @@ def _fill(
 ) -> bool:
     """Puts a book in the place of an empty file, and says whether it was one.
 
-    An empty book stays as it is. The program makes and judges another file: a link that is put in the
-    place of this one would lead it to any of this user.
+    An empty book stays as it is. A file that nothing may replace becomes a book itself. The program
+    makes and judges another one: a link that is put in the place of this would lead it to any of this
+    user.
     """
     with held(BookFile(asked.path), os.O_RDWR) as file, ExitStack() as stack:
         place = stack.enter_context(place_of(path))
@@ -166,16 +170,38 @@ def _fill(
         begun = stack.enter_context(_temporary())
         _judge_log(asked.path, NotMade, "new book")
         _begin(begun, NewBook(fspath(begun)), program, holding)
-        made = stack.enter_context(made_beside(path))
-        with open(begun, "rb") as whole, create(made) as written:
+        whole = stack.enter_context(open(begun, "rb"))
+        try:
+            _put_over_empty(whole, file, path, place)
+        except OSError as error:
+            if error.errno not in _MAY_NOT_BE_REPLACED:
+                raise
+            place.judge(file.fileno())
+            _write_into(file, whole)
+    return True
+
+
+def _put_over_empty(whole: BinaryIO, empty: BinaryIO, path: str, place: Place) -> None:
+    """Puts a file with these bytes in the place of an empty one, with the access of that."""
+    with made_beside(path) as made:
+        with create(made) as written:
             copy_bytes(whole.fileno(), written.fileno())
-            give_list(written.fileno(), file.fileno())
-            give_access(written.fileno(), file.fileno())
+            give_list(written.fileno(), empty.fileno())
+            give_access(written.fileno(), empty.fileno())
             os.fsync(written.fileno())
             like = os.fstat(written.fileno())
-        place.judge(file.fileno())
+        place.judge(empty.fileno())
         put_over(made, place, like)
-    return True
+
+
+def _write_into(empty: BinaryIO, whole: BinaryIO) -> None:
+    """Writes a book into an empty file itself, which is empty again if that fails."""
+    try:
+        copy_bytes(whole.fileno(), empty.fileno())
+        os.fsync(empty.fileno())
+    except OSError:
+        os.ftruncate(empty.fileno(), 0)
+        raise
 
 
 def _judge_copy(file: BinaryIO, asked: NewBook, program: StrPath | None) -> None:

@@ -1640,6 +1640,23 @@ def test_a_new_book_that_is_stopped_while_it_is_written_leaves_an_empty_file_emp
     assert (names(tmp_path), mode_of(place, place.stat())) == ({"place"}, 0o640)
 
 
+@pytest.mark.parametrize("number", [errno.EPERM, errno.EACCES, errno.EBUSY])
+def test_an_empty_file_that_may_not_be_replaced_becomes_a_book_itself(
+    tmp_path: Path, monkeypatch: pytest.MonkeyPatch, number: int
+) -> None:
+    place = tmp_path / "place"
+    place.touch()
+    before = place.stat().st_ino
+
+    def refused(*_: object, **__: object) -> None:
+        raise OSError(number, os.strerror(number))
+
+    monkeypatch.setattr(os, "replace", refused)
+    braildesk.new_book(place)
+    assert (names(tmp_path), place.stat().st_ino) == ({"place"}, before)
+    assert braildesk.check(place) == 0
+
+
 @pytest.mark.parametrize("ending", ["-wal", "-shm", "-journal"])
 def test_no_book_gets_a_name_by_which_what_belongs_to_another_is_looked_for(
     book: Path, ending: str
