@@ -322,6 +322,9 @@ def test_a_line_like_a_note_with_which_a_text_goes_on_uses_the_note() -> None:
         # numbers and words of a front are print as they stand there, and switches are none
         ("---\ntitle: 7.10\nauthor: No\n---\n\nA", ["7.10", "No", "A"], []),
         ("---\nprice: 12.50\nTOC: yes\nlang: no\n---\n\nA", ["A"], ["12.50"]),
+        # what stands between two rules is no front
+        ("---\n\nSea: 012\n\ndate: no\n\n---\n\nA", ["Sea: 012", "date: no", "A"], []),
+        ("---\n\nA\n\n---\nSea: one\n---\n\nB", ["A", "Sea: one", "B"], []),
         ("A `b\\'c` or `d\\_e` `` f\\`g ``\n\n    h\\'i", None, []),
     ],
 )

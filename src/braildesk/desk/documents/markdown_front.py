@@ -93,9 +93,12 @@ def _is_end(fenced: re.Match[str]) -> bool:
 
 
 def front_of(lines: Sequence[str]) -> int:
-    """How many lines the front of a text has, with the blank ones before it and the one that ends it."""
+    """How many lines the front of a text has, with the blank ones before it and the one that ends it.
+
+    Where a blank line is after the hyphens, what follows is print.
+    """
     start = next((n for n, line in enumerate(lines) if line.strip()), 0)
-    if lines[start].rstrip() != _HYPHENS:
+    if lines[start].rstrip() != _HYPHENS or not "".join(lines[start + 1 :][:1]).strip():
         return start
     ends = (n for n, line in enumerate(lines) if n > start and line.rstrip() in _ENDS)
     return next(ends, start) + 1
