@@ -219,59 +219,72 @@ def doc(story: str, kinds: Sequence[int], others: Sequence[str] = ("",) * 7) -> 
     """A text in DOC with fields of some kinds, and the stories after it, as its notes; each other piece of it has one
     byte for each character."""
     signs = [
-        (each.start(), each[0].encode()) for each in re.finditer("[\x13-\x15]", story)
+        (_units(story[: each.start()]), each[0].encode())
+        for each in re.finditer("[\x13-\x15]", story)
     ]
-    places = (*(place for place, _ in signs), len(story))
+    places = (*(place for place, _ in signs), _units(story))
     said = iter(kinds)
     fields = struct.pack(f"<{len(places)}I", *places)
     fields += b"".join(
         s + bytes([next(said) if s == b"\x13" else 255]) for _, s in signs
     )
-    whole, front = "".join((story, *others)), 1_024
-    ends = [*range(0, len(whole), 7), len(whole)]
+    whole, front = "".join((story, *others)).encode("utf-16-le"), 1_024
+    ends = [*range(0, len(whole) // 2, 7), len(whole) // 2]
     text, pieces = b"", b""
     for number, (start, stop) in enumerate(zip(ends, ends[1:])):
-        place, is_narrow = front + len(text), number % 2
+        place, piece = front + len(text), whole[2 * start : 2 * stop]
+        is_narrow = number % 2 and not any(piece[1::2])
         pieces += struct.pack("<HIH", 0, place * 2 | 1 << 30 if is_narrow else place, 0)
-        text += whole[start:stop].encode("cp1252" if is_narrow else "utf-16-le")
+        text += piece[::2] if is_narrow else piece
     pieces = struct.pack(f"<{len(ends)}I", *ends) + pieces
     looks = struct.pack("<BH3s", 1, 3, b"abc")
     table = fields + looks + struct.pack("<BI", 2, len(pieces)) + pieces
     tables = [0] * 2 * 93
     tables[2 * 16 : 2 * 17] = 0, len(fields)
     tables[2 * 33 : 2 * 34] = len(fields), len(table) - len(fields)
-    lengths = [0, 0, 0, *map(len, (story, *others)), *[0] * 11]
+    lengths = [0, 0, 0, *map(_units, (story, *others)), *[0] * 11]
     parts = struct.pack("<HHHHHH20x", 0xA5EC, 0xC1, 0, 0, 0, 0x0200)
     parts += struct.pack("<H28xH", 14, 22) + struct.pack("<22i", *lengths[:22])
     parts += struct.pack("<H", 93) + struct.pack("<186I", *tables)
     return _compound(parts.ljust(front, b"\0") + text.ljust(4_096, b"\0"), table)
 
 
+def _units(text: str) -> int:
+    """How many signs a text has in UTF-16."""
+    return len(text.encode("utf-16-le")) // 2
+
+
 def _compound(text: bytes, table: bytes) -> bytes:
-    """The container of a text, whose sectors stand there from the last one on, and of its tables, which are small."""
+    """The container of a text, whose sectors stand there from the last one on, and of its tables, which are small.
+
+    Another text stands in it, as an object in a folder of the container does.
+    """
     small = table.ljust(-(-len(table) // _SECTOR) * _SECTOR, b"\0")
     text = text.ljust(-(-len(text) // _SECTOR) * _SECTOR, b"\0")
     first = 3 + len(small) // _SECTOR
     last = first + len(text) // _SECTOR - 1
-    follow = [_END] * 3 + [*range(4, first), _END] + [_END, *range(first, last)]
+    follow = [_END, last + 1, _END, *range(4, first), _END]
+    follow += [_END, *range(first, last), _END]
     inner = [*range(1, -(-len(table) // 64)), _END]
     entries = [
-        ("Root Entry", 5, 3, len(small)),
-        ("WordDocument", 2, last, len(text)),
-        ("1Table", 2, 0, len(table)),
+        ("Root Entry", 5, _NONE, 1, 3, len(small)),
+        ("WordDocument", 2, 2, _NONE, last, len(text)),
+        ("1Table", 2, 3, _NONE, 0, len(table)),
+        ("ObjectPool", 1, _NONE, 4, 0, 0),
+        ("WordDocument", 2, _NONE, _NONE, first, len(text)),
     ]
     directory = b"".join(
         struct.pack(
-            "<64sHBB48sIII",
+            "<64sHBBIII36xIII",
             f"{name}\0".encode("utf-16-le"),
             2 * len(name) + 2,
             kind,
             1,
-            b"",
-            *place,
+            _NONE,
+            *places,
             0,
         )
-        for name, kind, *place in entries
+        for name, kind, *places in entries
     )
     head = struct.pack(
         "<Q16xHHHHH6xIIIIIIIII",
@@ -300,9 +313,10 @@ def _compound(text: bytes, table: bytes) -> bytes:
                 struct.pack("<128I", *part, *[_NONE] * (128 - len(part)))
                 for part in (follow,)
             ),
-            directory.ljust(_SECTOR, b"\0"),
+            directory[:_SECTOR],
             struct.pack("<128I", *inner, *[_NONE] * (128 - len(inner))),
             small,
             *reversed(sectors),
+            directory[_SECTOR:].ljust(_SECTOR, b"\0"),
         )
     )

@@ -1623,10 +1623,14 @@ def test_words_of_doc_that_libreoffice_leaves_out_are_missing(
     tmp_path: Path, programs: Path
 ) -> None:
     letters = "".join(symbol("Wingdings", f"F0{ord(each):X}") for each in "abc")
-    made = docx(tmp_path / "made.docx", paragraph(run("One two ") + letters))
+    # each of these is a pair of signs in DOC, of which one may be parted
+    pairs = "\U0001d400\U0001d401\U0001d402"
+    one = paragraph(run(f"One {pairs} two ") + letters)
+    made = docx(tmp_path / "made.docx", one)
     program(programs, "soffice", 'mkdir -p "$6"', f'cp {made} "$6/manuscript.docx"')
     story = (
-        "One \x13 DATE \\@ d \x14two\x15 abc\x13 EQ \\f(x;six) \x15\rand three\x07\x13 SET a four \x14"
+        f"One {pairs}"
+        " \x13 DATE \\@ d \x14two\x15 abc\x13 EQ \\f(x;six) \x15\rand three\x07\x13 SET a four \x14"
         + "five\x15"
     )
     others = ("A note.\r", "An edge.\r", "", "", "", "In a box, na\u00efve.\r", "")
@@ -1644,7 +1648,8 @@ def test_words_of_doc_that_libreoffice_leaves_out_are_missing(
     # its sectors name each other for ever
     round_ = front[:68] + bytes(8) + b"\xff" * (436 + 508) + bytes(4) + front[1_024:]
     cut = (front[:size] for size in (30, 600, 1_700, 4_000))
-    for data in (*cut, older, round_):
+    deep = doc(1_001 * "\x13", 1_001 * [1])
+    for data in (*cut, older, round_, deep):
         read = read_document(data, ManuscriptKind.DOC)
         assert (len(read.missing), lost(read, LossKind.UNSEEN)) == (1, [""])
 

@@ -20,7 +20,7 @@ import pytest
 
 from braildesk import Mark, Paragraph, Session, Style, Table
 from braildesk.desk.compare import OtherWords, differences
-from braildesk.desk.documents import contents
+from braildesk.desk.documents import contents, doc_text
 from braildesk.desk.documents.contents import contents_of, missing
 from braildesk.desk.documents.kinds import ManuscriptKind, NoDocument, WhyNot
 from braildesk.desk.documents.numbers import with_numbers
@@ -44,7 +44,7 @@ from braildesk.text.spans import find_spans
 from braildesk.text.wrapping import wrap
 from scribe.words.find import word_lines
 
-from handmade import docx, odt, paragraph, run
+from handmade import doc, docx, odt, paragraph, run
 
 # of a processor: far more than what is wanted takes on a busy machine, and far less than its square
 SECONDS = 20
@@ -60,6 +60,17 @@ def test_each_character_that_a_table_lacks_is_found_in_one_walk_along_its_line()
     assert [fault.position.column for fault in found] == list(range(1, 2_001))
     steps = after.hits + after.misses - before.hits - before.misses
     assert steps < 4 * len(lacking)
+
+
+def test_a_result_of_a_field_in_doc_that_begins_many_times_begins_once(
+    monkeypatch: pytest.MonkeyPatch,
+) -> None:
+    story = "\x13 IF \x13 PAGE " + 100_000 * "\x14" + "a"
+    stories = "braildesk.desk.documents.doc_text._File.stories"
+    monkeypatch.setattr(stories, lambda _: [story])
+    started = time.process_time()
+    assert doc_text.passages_of(doc("a", [])) == []
+    assert time.process_time() - started < SECONDS
 
 
 def test_styles_that_are_based_on_each_other_are_gone_through_once(

@@ -6,7 +6,8 @@ or a fault, in place of what stands there; and drops results, or what is after t
 
 import re
 import struct
-from collections.abc import Iterator
+from collections.abc import Iterator, Sized
+from dataclasses import dataclass, field
 from itertools import pairwise
 from xml.etree.ElementTree import Element
 
@@ -25,7 +26,9 @@ _STORIES, _EDGES = range(3, 11), 5
 _IS_NARROW = 1 << 30
 #: The signs around the code and the result of a field.
 _BEGIN, _RESULT, _END = 0x13, 0x14, 0x15
-_SIGNS = re.compile("([\x13-\x15])")
+_SIGNS = re.compile("[\x13-\x15]|[^\x13-\x15]+")
+#: How many fields may be open at once, which is far more than those of any text are.
+_DEEPEST = 1_000
 #: The kinds of fields whose results are to be shown as they are, as dates, references, numbers and conditions.
 _SHOWN = frozenset((3, 5, 7, 10, 12, *range(14, 36), 37, 39, 40, 44, 59, 60, 61, 62))
 _SHOWN |= {64, 65, 66, 68, 72, 75, 79, 80, 85, 93, 94, 95}
@@ -68,18 +71,28 @@ class _File:
         )
         return start, self._table[start : start + size]
 
+    def fields(self) -> list[tuple[int, bytes]]:
+        """Where in the stream of tables those of fields begin, and their bytes, none of which two have."""
+        found = [self.table(number) for number in _FIELDS]
+        if sum(len(table) for _, table in found) > len(self._table):
+            raise ValueError(found)
+        return found
+
     def stories(self) -> Iterator[str]:
         """The text, its notes, its comments and its text boxes."""
-        text = "".join(self._pieces())
+        # a pair of signs that is one character counts as two
+        text = b"".join(self._pieces())
         start = 0
         for number in _STORIES:
             place = self._lengths + 2 + 4 * number
-            (length,) = struct.unpack_from("<i", self._front, place)
+            (length,) = struct.unpack_from("<I", self._front, place)
+            stop = start + 2 * length
             if number != _EDGES:
-                yield text[start : start + length]
-            start += length
+                yield text[start:stop].decode("utf-16-le", "replace")
+            start = stop
 
-    def _pieces(self) -> Iterator[str]:
+    def _pieces(self) -> Iterator[bytes]:
+        """The pieces of the text, with two bytes for each sign."""
         _, table = self.table(_PIECES)
         place = 0
         # what stands ahead says how texts look
@@ -95,11 +108,9 @@ class _File:
             if where & _IS_NARROW:
                 start = (where ^ _IS_NARROW) // 2
                 text = self._front[start : start + last - first]
-                yield text.decode("cp1252", "replace")
+                yield text.decode("cp1252", "replace").encode("utf-16-le")
             else:
-                text = self._front[where : where + 2 * (last - first)]
-                # a pair of signs that is one character counts as two
-                yield text.decode("utf-16-le", "surrogatepass")
+                yield self._front[where : where + 2 * (last - first)]
 
 
 def as_shown(data: bytes) -> bytes:
@@ -107,8 +118,7 @@ def as_shown(data: bytes) -> bytes:
     made = bytearray(data)
     try:
         file = _File(data)
-        for number in _FIELDS:
-            start, table = file.table(number)
+        for start, table in file.fields():
             for offset, kind in _kinds(table):
                 made[file.tables.place(start + offset)] = kind
     except DAMAGED:
@@ -129,6 +139,7 @@ def _kinds(table: bytes) -> Iterator[tuple[int, int]]:
                 if opened and not opened[-1][1]:
                     opened[-1][2] = True
                 opened.append([place + 1, False, False])
+                _check_depth(opened)
             case sign if sign == _RESULT and opened:
                 opened[-1][1] = True
             case sign if sign == _END and opened:
@@ -139,41 +150,63 @@ def _kinds(table: bytes) -> Iterator[tuple[int, int]]:
                     yield its, _WITH_FIELDS
 
 
+def _check_depth(opened: Sized) -> None:
+    """Raises `ValueError` if more fields are open than may be."""
+    if len(opened) > _DEEPEST:
+        raise ValueError(len(opened))
+
+
 def passages_of(data: bytes) -> list[str] | None:
     """The paragraphs of a text in DOC; None if it is damaged, or of the form before that of 1997."""
     try:
-        stories = list(_File(data).stories())
+        texts = ["".join(_print(story)) for story in _File(data).stories()]
     except DAMAGED:
         return None
-    texts = ("".join(_print(story)).translate(_CHARACTERS) for story in stories)
-    return [each for text in texts for each in _ENDS.split(text) if each.strip()]
+    shown = (text.translate(_CHARACTERS) for text in texts)
+    return [each for text in shown for each in _ENDS.split(text) if each.strip()]
+
+
+@dataclass(slots=True)
+class _Field:
+    """A field that is open: the pieces of its code, whether its result has begun, and nothing of it is seen here."""
+
+    code: list[str] = field(default_factory=list)
+    has_result: bool = False
+    is_unseen: bool = True
+
+    def begin_result(self) -> bool:
+        """Begins its result, and says whether that is seen, of which nothing was until here."""
+        # its sign may stand there again
+        if not self.has_result:
+            self.has_result = True
+            self.is_unseen = _UNSEEN.match("".join(self.code)) is not None
+            return not self.is_unseen
+        return False
 
 
 def _print(story: str) -> Iterator[str]:
     """What is seen of a story: all but the codes of its fields, and of some their results."""
-    #: The codes of the fields that are open, and of how many of them nothing is seen here.
-    codes: list[list[str]] = []
-    unseen: list[bool] = []
+    opened: list[_Field] = []
+    #: Of how many of these nothing is seen here.
     hidden = 0
-    for piece in _SIGNS.split(story):
+    for piece in (found[0] for found in _SIGNS.finditer(story)):
         match piece:
             case "\x13":
-                codes.append([])
-                unseen.append(True)
+                opened.append(_Field())
                 hidden += 1
-            case "\x14" if codes:
-                hidden -= unseen[-1]
-                unseen[-1] = _UNSEEN.match("".join(codes[-1])) is not None
-                hidden += unseen[-1]
-            case "\x15" if codes:
-                code, is_unseen = "".join(codes.pop()), unseen.pop()
-                hidden -= is_unseen
+                _check_depth(opened)
+            case "\x14" if opened:
+                hidden -= opened[-1].begin_result()
+            case "\x15" if opened:
+                its = opened.pop()
+                hidden -= its.is_unseen
                 # it may have no result
-                yield formula_of_code(code) if is_unseen and not hidden else ""
+                if its.is_unseen and not hidden:
+                    yield formula_of_code("".join(its.code))
             case _ if not hidden:
                 yield piece
             case _:
-                codes[-1].append(piece)
+                opened[-1].code.append(piece)
 
 
 def letters_of(container: bytes) -> list[str]:

@@ -14,8 +14,9 @@ _SECTORS, _FIRST_SECTORS = 30, 109
 _LEAST, _SMALL_STEP = 4_096, 64
 #: From here on a number is that of no sector.
 _NONE = 0xFFFF_FFFA
-#: How long an entry of the directory is, where in it the kind and the place are, and the kind of the first.
-_ENTRY, _KIND, _PLACE, _ROOT = 128, 66, 116, 5
+#: How long an entry of the directory is, and its name at most; where in it its kind is, which entries are beside it
+#: and in it, and its place; and the kind of a stream.
+_ENTRY, _NAME, _KIND, _BESIDE, _WITHIN, _PLACE, _STREAM = 128, 64, 66, 68, 76, 116, 2
 
 
 @dataclass(frozen=True, slots=True)
@@ -36,25 +37,39 @@ class Stream:
 
 
 def streams_of(data: bytes, names: Collection[str]) -> dict[str, Stream]:
-    """Those streams of a container that have some names; raises what `DAMAGED` has."""
+    """Those streams of a container that have some names; raises what `DAMAGED` has.
+
+    Those of documents that stand in it, as in a folder, are none of them.
+    """
     reader = _Reader(data)
     directory = reader.stream(reader.first_of_directory).of(data)
+    wanted = {f"{name}\0".encode("utf-16-le"): name for name in names}
     found: dict[str, tuple[int, int]] = {}
-    inner = 0
-    for front in range(0, len(directory), _ENTRY):
-        (length,) = struct.unpack_from("<H", directory, front + 64)
-        name = directory[front : front + max(length - 2, 0)].decode("utf-16-le")
-        first, size = struct.unpack_from("<II", directory, front + _PLACE)
-        if directory[front + _KIND] == _ROOT:
-            inner = first
-        elif name in names:
+    for front in _outermost(directory):
+        (length,) = struct.unpack_from("<H", directory, front + _NAME)
+        name = wanted.get(directory[front : front + min(length, _NAME)])
+        if name is not None and directory[front + _KIND] == _STREAM:
+            first, size = struct.unpack_from("<II", directory, front + _PLACE)
             found[name] = first, size
+    (inner,) = struct.unpack_from("<I", directory, _PLACE)
     return {
         name: reader.small_stream(first, reader.stream(inner))
         if size < _LEAST
         else reader.stream(first)
         for name, (first, size) in found.items()
     }
+
+
+def _outermost(directory: bytes) -> Iterator[int]:
+    """Where in a directory the entries are that stand in no other but the first one."""
+    numbers: list[int] = [*struct.unpack_from("<I", directory, _WITHIN)]
+    seen: set[int] = set()
+    while numbers:
+        number = numbers.pop()
+        if number < _NONE and number not in seen:
+            seen.add(number)
+            yield number * _ENTRY
+            numbers += struct.unpack_from("<II", directory, number * _ENTRY + _BESIDE)
 
 
 class _Reader:
