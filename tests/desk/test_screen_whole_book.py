@@ -672,6 +672,31 @@ def test_a_change_of_all_places_that_was_killed_is_asked_about_until_it_is_done_
     assert sat.state.question is None and Drafts(tides).changes() == ()
 
 
+@pytest.mark.parametrize(
+    "old, new, before, now, after",
+    [
+        ("  ", " ", "Tide    tide", "Tide   tide", "Tide  tide"),
+        ("aa", "aba", "b aaaa", "b abaaa", "b abaaba"),
+    ],
+)
+def test_what_was_put_in_hides_no_place_beside_it_that_was_listed(
+    book: Path, sit: Sit, old: str, new: str, before: str, now: str, after: str
+) -> None:
+    with Session(book) as session:
+        session.add_paragraph("end", "en", now)
+        session.add_paragraph("end", "en", "End")
+    first = before.index(old)
+    places = tuple(
+        NotedPlace(1, len(before), first + n, old, Became.OPEN) for n in (0, len(old))
+    )
+    Drafts(book).begin_change(ChangeNote(old, new, False, False, 1, places))
+    sat = sit(book)
+    assert sat.state.question and "1 of 2 places is" in sat.state.question.sentence
+    sat.press("y", "a")
+    sat.desk.close()
+    assert prints(book) == [after, "End"]
+
+
 def test_what_is_asked_first_hides_nothing_of_a_change_that_was_cut_short(
     tides: Path, sit: Sit
 ) -> None:
