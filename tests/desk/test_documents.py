@@ -1630,11 +1630,11 @@ def test_words_of_doc_that_libreoffice_leaves_out_are_missing(
     program(programs, "soffice", 'mkdir -p "$6"', f'cp {made} "$6/manuscript.docx"')
     story = (
         f"One {pairs}"
-        " \x13 DATE \\@ d \x14two\x15 abc\x13 EQ \\f(x;six) \x15\rand three\x07\x13 SET a four \x14"
+        " \x13 DATE \\@ d \x14two\x15 abc\x13 EQ \\f(x;\x13 REF a \x14six\x15) \x15\rand three\x07\x13 SET a four \x14"
         + "five\x15"
     )
     others = ("A note.\r", "An edge.\r", "", "", "", "In a box, na\u00efve.\r", "")
-    read = read_document(doc(f"{story}\r", [31, 49, 6], others), ManuscriptKind.DOC)
+    read = read_document(doc(f"{story}\r", [31, 49, 3, 6], others), ManuscriptKind.DOC)
     assert [each.words for each in read.missing] == [
         "Wingdings_F061 Wingdings_F062 Wingdings_F063",
         "x six",
@@ -1643,12 +1643,12 @@ def test_words_of_doc_that_libreoffice_leaves_out_are_missing(
         "In a box na\u00efve",
     ]
     # of one that is damaged, or older, nothing else is known
-    front = doc(story, [31, 49, 6])
+    front = doc(story, [31, 49, 3, 6])
     older = front.replace(b"\xec\xa5", b"\xdc\xa5", 1)
     # its sectors name each other for ever
     round_ = front[:68] + bytes(8) + b"\xff" * (436 + 508) + bytes(4) + front[1_024:]
     cut = (front[:size] for size in (30, 600, 1_700, 4_000))
-    deep = doc(1_001 * "\x13", 1_001 * [1])
+    deep = doc(101 * "\x13", 101 * [1])
     for data in (*cut, older, round_, deep):
         read = read_document(data, ManuscriptKind.DOC)
         assert (len(read.missing), lost(read, LossKind.UNSEEN)) == (1, [""])

@@ -6,7 +6,7 @@ or a fault, in place of what stands there; and drops results, or what is after t
 
 import re
 import struct
-from collections.abc import Iterator, Sized
+from collections.abc import Iterator, Sequence, Sized
 from dataclasses import dataclass, field
 from itertools import pairwise
 from xml.etree.ElementTree import Element
@@ -28,7 +28,7 @@ _IS_NARROW = 1 << 30
 _BEGIN, _RESULT, _END = 0x13, 0x14, 0x15
 _SIGNS = re.compile("[\x13-\x15]|[^\x13-\x15]+")
 #: How many fields may be open at once, which is far more than those of any text are.
-_DEEPEST = 1_000
+_DEEPEST = 100
 #: The kinds of fields whose results are to be shown as they are, as dates, references, numbers and conditions.
 _SHOWN = frozenset((3, 5, 7, 10, 12, *range(14, 36), 37, 39, 40, 44, 59, 60, 61, 62))
 _SHOWN |= {64, 65, 66, 68, 72, 75, 79, 80, 85, 93, 94, 95}
@@ -168,11 +168,23 @@ def passages_of(data: bytes) -> list[str] | None:
 
 @dataclass(slots=True)
 class _Field:
-    """A field that is open: the pieces of its code, whether its result has begun, and nothing of it is seen here."""
+    """A field that is open: the pieces of its code and of its result where nothing is seen, and whether this has
+    begun, and nothing of it is seen here."""
 
     code: list[str] = field(default_factory=list)
+    result: list[str] = field(default_factory=list)
     has_result: bool = False
     is_unseen: bool = True
+
+    def add(self, pieces: Sequence[str]) -> None:
+        """Adds what stands in it."""
+        (self.result if self.has_result else self.code).extend(pieces)
+
+    def shown(self) -> Sequence[str]:
+        """What is seen of it: its result, or the parts of a formula that has none."""
+        if not self.has_result:
+            return [formula_of_code("".join(self.code))]
+        return [] if self.is_unseen else self.result
 
     def begin_result(self) -> bool:
         """Begins its result, and says whether that is seen, of which nothing was until here."""
@@ -200,13 +212,15 @@ def _print(story: str) -> Iterator[str]:
             case "\x15" if opened:
                 its = opened.pop()
                 hidden -= its.is_unseen
-                # it may have no result
-                if its.is_unseen and not hidden:
-                    yield formula_of_code("".join(its.code))
+                if hidden:
+                    # it may be a part of a formula
+                    opened[-1].add(its.shown())
+                elif not its.has_result:
+                    yield from its.shown()
             case _ if not hidden:
                 yield piece
             case _:
-                opened[-1].code.append(piece)
+                opened[-1].add([piece])
 
 
 def letters_of(container: bytes) -> list[str]:
