@@ -354,7 +354,10 @@ def test_what_is_shown_of_the_code_of_a_field_is_missing_if_it_has_no_result(
         field(" MACROBUTTON Run Press here", middle),
         field("MACROBUTTON Run Not here", middle, run("pressed")),
         field("DATE"),
+        field(" GOTOBUTTON a Go there ", field("REF b", middle, run(" now"))),
+        field("MACROBUTTON Run No", middle, field("REF b", middle, run(" or"))),
     )
     found = read_manuscript(docx(tmp_path / "a.docx", body))
-    assert found.texts == ["Half is pressed"]
-    assert [each.words for each in found.missing] == ["1a 2b c", "Press here"]
+    assert found.texts == ["Half is pressed now or"]
+    missing = [each.words for each in found.missing]
+    assert missing == ["1a 2b c", "Press here", "Go there"]

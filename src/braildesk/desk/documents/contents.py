@@ -419,18 +419,30 @@ def _paragraphs(element: Element) -> Iterator[str]:
 
 
 def _codes(root: Element) -> Iterator[str]:
-    """The codes of the fields of a part that have neither results nor fields in them."""
-    code = ""
+    """The codes of the fields of a part that have no results, without the fields in them."""
+    #: The fields that are open: their codes, none of those that have results, and which of these have begun.
+    codes: list[list[str] | None] = []
+    begun: list[bool] = []
     for element in root.iter():
         if element.tag == f"{_W}fldChar":
             kind = element.get(f"{_W}fldCharType")
-            if kind == "end":
-                yield code
-            code = code if kind == "separate" else ""
+            if kind == "begin":
+                codes.append([])
+                begun.append(False)
+            elif codes and kind == "separate":
+                begun[-1] = True
+            elif codes and kind == "end":
+                begun.pop()
+                yield "".join(codes.pop() or ())
         elif element.tag == f"{_W}instrText":
-            code += element.text or ""
+            if codes and (code := codes[-1]) is not None:
+                code.append(element.text or "")
         elif element.tag == f"{_W}t" and element.text:
-            code = ""
+            for nth in reversed(range(len(codes))):
+                # a text in a result is one in those around it too, up to a code
+                if codes[nth] is None or nth + 1 < len(codes) and not begun[nth]:
+                    break
+                codes[nth] = None
 
 
 def _is_drop_cap(paragraph: Element) -> bool:
