@@ -20,7 +20,7 @@ import pytest
 
 from braildesk import Mark, Paragraph, Session, Style, Table
 from braildesk.desk.compare import OtherWords, differences
-from braildesk.desk.documents import contents, doc_text
+from braildesk.desk.documents import contents, doc_text, rtf_words
 from braildesk.desk.documents.contents import contents_of, missing
 from braildesk.desk.documents.kinds import ManuscriptKind, NoDocument, WhyNot
 from braildesk.desk.documents.numbers import with_numbers
@@ -70,6 +70,14 @@ def test_a_result_of_a_field_in_doc_that_begins_many_times_begins_once(
     monkeypatch.setattr(stories, lambda _: [story])
     started = time.process_time()
     assert doc_text.passages_of(doc("a", [])) == []
+    assert time.process_time() - started < SECONDS
+
+
+def test_a_name_in_rtf_that_has_many_lines_is_read_once() -> None:
+    lines = 30_000 * (1_000 * b"a" + b"\n")
+    data = rb"{\rtf1 {\*\shpinst{\sp{\sn " + lines + rb"}{\sv x}}}One}"
+    started = time.process_time()
+    assert rtf_words.passages_of(data) == ["One"]
     assert time.process_time() - started < SECONDS
 
 

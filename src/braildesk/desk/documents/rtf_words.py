@@ -217,8 +217,9 @@ class _Reader:
         self._group = replace(self._group, is_begun=True)
         count = min(self._skipped, len(text))
         self._skipped -= count
-        if self._group.is_name:
-            self._name += text
+        # of a long name, which is none of these, not all is copied at each piece
+        if self._group.is_name and len(self._name) <= len(_DESCRIPTION):
+            self._name = (self._name + text).lstrip()
         if self._group.is_print:
             self._pieces.append(b" " if self._is_symbol else text[count:])
 
