@@ -295,7 +295,7 @@ class OpenFile:
                 with create(made) as written:
                     copy_bytes(self._descriptor, written.fileno())
                     os.fsync(written.fileno())
-                    give_access(written.fileno(), self._descriptor)
+                    self._give_access(written)
                     saved = os.fstat(written.fileno())
                 if _version(made, program) < version:
                     raise Failed("The program did not write all of it to its file.")
@@ -310,11 +310,20 @@ class OpenFile:
             with made_beside(self.path) as made:
                 with create(made) as written:
                     written.write(text.encode())
-                    give_access(written.fileno(), self._descriptor)
+                    self._give_access(written)
                     saved = os.fstat(written.fileno())
                 return _put_beside(made, self.path, saved, ".txt")
         except OSError as error:
             raise Failed(f"{error.strerror or error}.") from error
+
+    def _give_access(self, file: BinaryIO) -> None:
+        """Lets those at a file that may read and write this one.
+
+        It is its owner's alone where the system says no more of this one, which is gone.
+        """
+        assert self._descriptor is not None
+        with suppress(OSError):
+            give_access(file.fileno(), self._descriptor)
 
     def put_log_by(self) -> str:
         """Gives the log beside the file a new path, unless it has no work; nothing where it stays.

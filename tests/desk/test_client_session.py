@@ -709,6 +709,22 @@ def test_a_book_that_is_gone_from_its_path_is_saved_and_said(
         assert [session.print_of(1), session.print_of(2)] == ["One.", "Two."]
 
 
+def test_a_book_is_saved_also_where_nothing_is_said_of_a_file_that_is_gone(
+    book: Path, monkeypatch: pytest.MonkeyPatch
+) -> None:
+    def fail(file: int, like: int) -> None:
+        raise FileNotFoundError(errno.ENOENT, "No such file or directory")
+
+    monkeypatch.setattr("braildesk.openfile.give_access", fail)
+    with pytest.raises(Displaced), Session(book) as session:
+        session.add_paragraph("end", "en", "One.")
+        removed(book)
+    saved = Path(f"{book}-saved-1")
+    assert saved.stat().st_mode & 0o777 == 0o600
+    with Session(saved) as session:
+        assert session.print_of(1) == "One."
+
+
 def test_a_book_that_is_gone_while_answers_come_is_noticed_among_them(
     book: Path,
 ) -> None:
