@@ -58,7 +58,7 @@ def test_a_text_that_can_be_kept_nowhere_is_said_to_be_lost_with_the_window(
 
 
 def test_what_is_given_up_and_can_be_kept_nowhere_is_typed_further(
-    desk: Desk, monkeypatch: pytest.MonkeyPatch, tmp_path: Path
+    desk: Desk, stays: list[str], monkeypatch: pytest.MonkeyPatch, tmp_path: Path
 ) -> None:
     monkeypatch.setattr(dialogs, "one_of", lambda _, t, a, names, f: names[0])
     _without_folder(tmp_path)
@@ -66,12 +66,31 @@ def test_what_is_given_up_and_can_be_kept_nowhere_is_typed_further(
     desk.window.print.insertPlainText("It rose.")
     desk.act("give_up")
     assert desk.window.message.text.endswith("It is here only until scribe ends.")
+    assert not desk.window.close()
+    assert stays == [
+        "A text, “It rose.”, can't be kept elsewhere after being given up. It is lost if the window"
+        " is closed. Ctrl+B brings it back."
+    ]
     desk.act("bring_back")
     assert desk.new is not None and desk.window.print.text == "It rose."
     assert "What is typed can't be kept in" in desk.window.message.text
     desk.act("keep")
     assert "It rose." in prints_of(desk)
     assert desk.unsent.unkept == ()
+
+
+def test_what_is_given_up_and_can_be_kept_nowhere_is_said_at_the_end(
+    monkeypatch: pytest.MonkeyPatch, desk: Desk, tmp_path: Path
+) -> None:
+    _without_folder(tmp_path)
+    for text in ("It rose.", "It set."):
+        desk.act("new_after")
+        desk.window.print.insertPlainText(text)
+        desk.act("give_up")
+    desk.close()
+    monkeypatch.setattr(desk, "close", lambda: None)
+    said = "This was typed, and could not be kept: It set. It rose."
+    assert desk.waits_at_once() == said
 
 
 @pytest.mark.parametrize("is_slow", [False, True])

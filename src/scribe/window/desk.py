@@ -64,7 +64,7 @@ from scribe.words.drafts import (
     typed_there,
     what_for,
 )
-from scribe.words.paragraph import counted, mark_line, title
+from scribe.words.paragraph import counted, mark_line, quoted, title
 from scribe.words.preview import Preview
 from scribe.words.status import Interrupted, Stop, in_sentences
 
@@ -867,7 +867,7 @@ class Desk:
         self.keep_draft(draft)
         # nothing more is done beside the window, which isn't drawn while that is waited for
         self.aside.stop()
-        unkept = []
+        unkept = [*self.unsent.unkept]
         if draft is not None and self.unsent.waiting != draft:
             unkept.append(draft.text)
         try:
@@ -1250,8 +1250,28 @@ class Desk:
             self._is_acting = False
         if not may_close and not self.is_left():
             return False
+        if self.unsent.unkept and not self._is_given_up(self.unsent.unkept):
+            return False
         self.held.end()
         return True
+
+    def _is_given_up(self, texts: Sequence[str]) -> bool:
+        """Asks whether the window goes while texts that were given up are kept nowhere."""
+        what, goes = (
+            f"A text, {quoted(texts[0])},",
+            "It is lost if the window is closed",
+        )
+        how = "Ctrl+B brings it back."
+        if len(texts) > 1:
+            what = (
+                f"{counted(len(texts), 'text')}, the last of them {quoted(texts[0])},"
+            )
+            goes, how = (
+                "They are lost if the window is closed",
+                "Ctrl+B brings one back.",
+            )
+        said = f"{what} can't be kept elsewhere after being given up. {goes}. {how}"
+        return choice(self.window, "Not kept", said, ("&Close", "&Stay")) == 0
 
     def is_left(self) -> bool:
         """Asks whether the window goes while something is typed that wasn't kept."""
