@@ -49,7 +49,7 @@ _ROOM = "Let TMPDIR name a folder with room."
 #: Why a copy can't be opened where it is, whatever is so of the book.
 _OF_PLACE = (Why.NO_ROOM, Why.OVER_QUOTA, Why.READ_ONLY, Why.DENIED)
 #: Whether the copy takes the place of a file that is held.
-_Replaces = Callable[[BinaryIO], bool]
+_Replaces = Callable[[str, BinaryIO], bool]
 #: How the names end of what a program may look for beside a book.
 _BESIDE = ("-wal", "-shm", "-journal")
 #: What is said where a file may be written, and none may be put in its place: a mount, or a folder in
@@ -310,11 +310,11 @@ def copy(
 
     The copy is written in a folder beside ``to``, opened there by the program, and gets its name
     only then. A file that is at ``to`` already is replaced only if ``overwrite`` says so, and, with
-    ``only_books``, if it begins as a book; no session can open it meanwhile. While a session has one
-    of them open, this is tried again for ``timeout`` seconds.
+    ``only_books``, if it begins as a book and isn't seen to be another database; no session can open
+    it meanwhile. While a session has one of them open, this is tried again for ``timeout`` seconds.
     """
     book, named = BookFile(fspath(path)), fspath(to)
-    is_replaced = opening.begins_as_book if only_books else lambda file: True
+    is_replaced = _may_be_book if only_books else lambda path, file: True
     replaces = is_replaced if overwrite else None
     return waited(lambda: _copied(book, named, replaces, program), timeout)
 
@@ -373,13 +373,17 @@ def _claimed(
         _judge_name(named, NotCopied, "copy")
         path = _followed(named, NotCopied, "replaced")
         older = stack.enter_context(held(BookFile(named), os.O_RDWR))
-        if not replaces(older):
+        if not replaces(path, older):
             raise NotCopied(
                 f"“{named}” is no book, and was left as it is. Take another path for the copy."
             )
         place = stack.enter_context(place_of(path))
         place.judge(older.fileno())
         yield _Target(named, path, place, older)
+
+
+def _may_be_book(path: str, file: BinaryIO) -> bool:
+    return opening.begins_as_book(file) and not opening.is_of_others(path)
 
 
 def _followed(named: str, kind: type[NotMade], done: str) -> str:

@@ -196,6 +196,17 @@ def begins_as_book(file: BinaryIO) -> bool:
     return os.pread(file.fileno(), len(MAGIC), 0) in (b"", MAGIC)
 
 
+def is_of_others(path: str | PathLike[str]) -> bool:
+    """Whether a file is seen to be a database of something else: it can be read, and lacks a table of books."""
+    try:
+        with closing(reader(path, True)) as database:
+            query = "SELECT count(*) FROM main.sqlite_schema"
+            ((count,),) = database.execute(query)
+            return count > 0 and not _OF_ALL_BOOKS <= _tables_in(database).keys()
+    except sqlite3.Error:
+        return False
+
+
 def _size_in(header: bytes) -> int:
     """The size that a database has by its own header."""
     if len(header) < 100:
@@ -392,6 +403,8 @@ _TABLES: Mapping[bytes, tuple[str, str, int]] = MappingProxyType(
         b"cache": ("para", "max(length(cells))", _VALUE),
     }
 )
+#: The tables that a book has in any case.
+_OF_ALL_BOOKS = {b"book", b"tab", b"para"}
 #: The bytes of a definition in a schema at most.
 _SCHEMA = 1 << 20
 #: What SQLite ends by if there is too much to be read.

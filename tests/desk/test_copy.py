@@ -2,8 +2,9 @@
 
 import os
 import shutil
+import sqlite3
 from collections.abc import Iterator
-from contextlib import AbstractContextManager, contextmanager
+from contextlib import AbstractContextManager, closing, contextmanager
 from io import BytesIO, StringIO
 from pathlib import Path
 from typing import Any, BinaryIO
@@ -41,12 +42,16 @@ def test_a_book_takes_the_place_of_another_where_the_words_say_so(moon: Path) ->
     assert braildesk.check(other) == 7
 
 
-@pytest.mark.parametrize("kind", ["text", "link to a text", "pipe"])
+@pytest.mark.parametrize("kind", ["text", "link to a text", "pipe", "database"])
 def test_nothing_but_a_book_is_replaced(moon: Path, kind: str) -> None:
     other, text = moon.with_name("other"), moon.with_name("letter")
     text.write_text("Dear Anna,\n")
     if kind == "pipe":
         os.mkfifo(other)
+    elif kind == "database":
+        with closing(sqlite3.connect(other)) as database:
+            # a book has a table of that name too
+            database.execute("CREATE TABLE book (title TEXT)")
     elif kind == "text":
         shutil.copyfile(text, other)
     else:
