@@ -3,6 +3,7 @@
 import hashlib
 import os
 import shutil
+import shlex
 import signal
 from collections.abc import Callable, Iterator
 from io import BytesIO, StringIO
@@ -207,6 +208,18 @@ def test_an_import_whose_book_is_replaced_goes_on_where_that_is_saved(
     assert ran(*cut.said.splitlines()[-1].split()[-6:]).status == 0
     assert prints(saved) == ["front", "end", *LINES]
     assert prints(front) == ["front", "end"]
+
+
+def test_commands_that_are_said_take_names_that_begin_with_a_hyphen(
+    killed: Path,
+) -> None:
+    for ending in ("", "-wal"):
+        Path(f"{killed}{ending}").rename(killed.with_name(f"-x{ending}"))
+    said = ran("show", "--print", "--", "-x").said.splitlines()
+    assert said[1].startswith("Go on by: scribe import ./-x ")
+    words = shlex.split(said[1].removeprefix("Go on by: scribe "))
+    assert ran(*words).status == 0
+    assert prints(killed.with_name("-x")) == ["front", *LINES, "end"]
 
 
 def test_an_import_that_goes_on_from_a_line_is_done(killed: Path) -> None:

@@ -74,6 +74,7 @@ from scribe.words.status import (
     status_of,
     stopped_by,
 )
+from scribe.words.typed import path_word
 
 if TYPE_CHECKING:
     from braildesk.desk.text_faults import Barred, Lacking, TextFault, TooLongPassage
@@ -271,7 +272,7 @@ def _left(job: Import, intake: Intake, cut: CutShort, again: str) -> Iterator[st
 
 def _command_from(job: Import, intake: Intake, kept: int, is_noted: bool) -> list[str]:
     """The words that go on after some paragraphs are in the book, by what is noted if it is."""
-    words = ["scribe", "import", str(job.book), str(job.text)]
+    words = ["scribe", "import", path_word(job.book), path_word(job.text)]
     if is_noted:
         return [*words, "--continue"]
     words += _choices(job)
@@ -401,7 +402,8 @@ def reminders(found: Unfinished | NotSeen | NotKept, book: Path) -> Iterator[str
         return
     import shlex  # as above
 
-    words = shlex.join(["scribe", "import", str(book), found.note.text])
+    its = map(path_word, (book, found.note.text))
+    words = shlex.join(["scribe", "import", *its])
     if isinstance(found, Unfinished):
         yield came_to(found)
         yield f"Go on by: {words} --continue"

@@ -135,6 +135,12 @@ def words_of(line: str) -> list[str]:
     return found
 
 
+def path_word(path: Path | str) -> str:
+    """A path as a word of a command, which takes it for no option of its own."""
+    word = str(path)
+    return f"./{word}" if word.startswith("-") else word
+
+
 def typed_path(word: str) -> Path:
     """The path that was typed, with ~ as the person's folder.
 

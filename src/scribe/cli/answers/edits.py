@@ -13,6 +13,7 @@ from scribe.words.changes import carried_out
 from scribe.words.console import Console
 from scribe.words.paragraph import no_mark
 from scribe.words.status import Stop
+from scribe.words.typed import path_word
 
 #: The request of each command, made of its words.
 _REQUESTS: Mapping[str, Callable[[Namespace], Command[Any]]] = {
@@ -50,5 +51,5 @@ def _no_mark(arguments: Namespace) -> str:
     if "wait" not in arguments:
         # at the prompt of talk, which has the book open
         return no_mark(arguments.mark)
-    command = shlex.join(["scribe", "marks", str(arguments.file)])
+    command = shlex.join(["scribe", "marks", path_word(arguments.file)])
     return no_mark(arguments.mark, command)

@@ -19,6 +19,7 @@ from scribe.words import encoding
 from scribe.words.aftermath import tell_end
 from scribe.words.console import Console
 from scribe.words.status import Interrupted, Status, Stop, not_loaded
+from scribe.words.typed import path_word
 
 if TYPE_CHECKING:
     from scribe.screen.desk import Desk
@@ -56,7 +57,7 @@ def run(arguments: Namespace, console: Console) -> Status:
     if os.environ.get("TERM") == "dumb":
         raise Stop(
             "scribe edit needs a terminal on which the cursor moves, and TERM says that this one is"
-            f" dumb. scribe talk {shlex.quote(str(arguments.file))} works here. Nothing was"
+            f" dumb. scribe talk {shlex.quote(path_word(arguments.file))} works here. Nothing was"
             " changed."
         )
     try:
