@@ -30,7 +30,7 @@ MODULES = {
     "show": (58, 154),
     "marks": (55, 152),
     "find": (56, 153),
-    "import": (72, 179),
+    "import": (73, 180),
 }
 #: Modules that take as long as all of a short command, and are needed by few.
 DEAR = {
