@@ -402,7 +402,7 @@ def reminders(found: Unfinished | NotSeen | NotKept, book: Path) -> Iterator[str
         return
     import shlex  # as above
 
-    its = map(path_word, (book, found.note.text))
+    its = path_word(book), path_word(found.note.text)
     words = shlex.join(["scribe", "import", *its])
     if isinstance(found, Unfinished):
         yield came_to(found)
