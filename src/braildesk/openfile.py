@@ -106,6 +106,10 @@ class OpenFile:
         """Whether the file has its name still; True if there was none to be held, or nobody can tell."""
         return _is_at(self.path, self._descriptor)
 
+    def is_at(self, path: str) -> bool:
+        """Whether another path leads to the file by now."""
+        return self._descriptor is not None and _is_at(path, self._descriptor)
+
     @property
     def has_its_log(self) -> bool:
         """Whether the log has its name still, by which it is found if the program is stopped."""

@@ -47,10 +47,10 @@ class Rescue:
         """That the file isn't at its path any more."""
         is_replaced = os.path.lexists(self._file.path)
         what = "another one was put there" if is_replaced else "it was removed or moved"
-        return (
-            f"The file of the book is no longer at {_shown(self._book.path)}: {what} while it was"
-            " open."
-        )
+        # from a folder that was renamed it is found still by a path that begins there
+        is_found = self._file.is_at(self._book.path)
+        path = self._file.path if is_found else self._book.path
+        return f"The file of the book is no longer at {_shown(path)}: {what} while it was open."
 
     def written_over(self) -> str:
         """That others wrote into the file, or into the log."""

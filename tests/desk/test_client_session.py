@@ -709,6 +709,23 @@ def test_a_book_that_is_gone_from_its_path_is_saved_and_said(
         assert [session.print_of(1), session.print_of(2)] == ["One.", "Two."]
 
 
+def test_of_a_book_whose_folder_was_renamed_it_is_said_where_it_was(
+    book: Path, monkeypatch: pytest.MonkeyPatch
+) -> None:
+    folder = book.parent / "folder"
+    folder.mkdir()
+    book.rename(folder / "book")
+    monkeypatch.chdir(folder)
+    with pytest.raises(Displaced) as caught, Session("book") as session:
+        folder.rename(book.parent / "other")
+        session.add_paragraph("end", "en", "One.")
+    # by the path that it was given it is found still
+    assert Path("book").exists()
+    assert caught.value.sentence.startswith(
+        f"The file of the book is no longer at “{folder}/book”: it was removed or moved"
+    )
+
+
 def test_a_book_is_saved_also_where_nothing_is_said_of_a_file_that_is_gone(
     book: Path, monkeypatch: pytest.MonkeyPatch
 ) -> None:

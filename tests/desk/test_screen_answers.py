@@ -58,11 +58,11 @@ def test_what_is_typed_as_an_answer_is_kept_before_enter_and_comes_back_by_up(
 @pytest.mark.parametrize(
     "keys, words, said",
     [
-        ("", ("mon", ""), "“mon” was to be changed, which wasn't done."),
+        ("", ("mon", ""), "“mon” was to be changed, which may not be done."),
         (
             "enter m o o n",
             ("mon", "moon"),
-            "“mon” was to be changed to “moon”, which wasn't done.",
+            "“mon” was to be changed to “moon”, which may not be done.",
         ),
     ],
 )

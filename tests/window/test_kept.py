@@ -413,7 +413,7 @@ def test_words_that_come_in_place_of_others_are_there_again_after_the_end(
     again = at(moon)
     again.reads(
         "Message",
-        "“sea” was to be changed to “ocean”, which wasn't done. Ctrl+H has the words still.",
+        "“sea” was to be changed to “ocean”, which may not be done. Ctrl+H has the words still.",
     )
     again.press("Ctrl+h")
     again.dialog("Change words")

@@ -340,7 +340,7 @@ def test_of_words_whose_change_was_cut_short_no_earlier_change_is_taken_back(
             " What was being done was stopped after 2 changes."
         )
         desk.act("take_back")
-        assert desk.window.message.text.startswith("Nothing that was done in this")
+        assert desk.window.message.text.startswith("There is nothing that Ctrl+Z")
         assert prints_of(desk)[1] == "So, The mon is fer eway."
 
 

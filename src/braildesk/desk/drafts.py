@@ -264,9 +264,14 @@ class Drafts:
             return False
 
     def begin_change(self, note: ChangeNote) -> None:
-        """Notes words before the first place is changed, in place of what was noted of them."""
+        """Notes words before the first place is changed, in place of what was noted of them.
+
+        They don't wait any more then, as they were typed.
+        """
         others = self._other_changes(note.old, note.new, note.ranges)
         self._note_changes((note, *others))
+        if self.words() == (note.old, note.new):
+            self.keep_words("", "")
 
     def end_change(
         self, old: str, new: str, ranges: tuple[ParagraphRange, ...] = WHOLE

@@ -110,7 +110,7 @@ class _StoppedHere(Exception):
 
 
 class NothingToTakeBack(Exception):
-    """Nothing of what was done in this window is left to take back."""
+    """There is nothing that was done in this window and could be taken back by itself."""
 
 
 class OpenBook:

@@ -70,8 +70,8 @@ class Typed:
             desk.window.model.all_unread()
         except NothingToTakeBack:
             desk.refuse(
-                "Nothing that was done in this window is left to take back. Ctrl+Shift+Z takes"
-                " back the newest correction of the paragraph."
+                "There is nothing that Ctrl+Z could take back. Ctrl+Shift+Z takes back the newest"
+                " correction of the paragraph."
             )
 
     def _is_taken_back(self) -> bool:

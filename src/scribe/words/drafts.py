@@ -104,10 +104,10 @@ def typed_there(text: str) -> str:
 
 
 def words_wait(words: tuple[str, str]) -> str:
-    """That words which were typed to take the place of others aren't in the book."""
+    """That words were typed to take the place of others, of which nothing was said after that."""
     old, new = words
     what = f" to {quoted(new)}" if new else ""
-    return f"{quoted(old)} was to be changed{what}, which wasn't done."
+    return f"{quoted(old)} was to be changed{what}, which may not be done."
 
 
 def where_typed(book: Path | None) -> str:
