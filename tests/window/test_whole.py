@@ -309,6 +309,35 @@ def test_the_caret_stays_where_it_is_while_what_is_typed_becomes_composed(
     assert desk.window.print.place == 3
 
 
+def test_the_place_of_cells_that_are_found_is_said_and_marked_there(
+    desk: Desk, given: Answers, monkeypatch: pytest.MonkeyPatch
+) -> None:
+    desk.choose(2)
+    assert desk.reading is not None
+    cells = desk.asked(lambda: desk.book.cells_of(3, Span(16, 19)))
+    given["text"] = desk.reading.its.braille[cells.start : cells.stop]
+    # keys are those of the cells before the window is in front again
+    desk.window.cells.setFocus()
+    desk.act("find")
+    assert desk.window.message.text == "Paragraph 3, cell 18."
+    assert "character 17, cell 18." in desk.window.here.text
+    asked = list[str]()
+
+    def further(over: object, title: str, sentence: str, *_: object) -> str:
+        asked.append(sentence)
+        return "so?"
+
+    monkeypatch.setattr(dialogs, "text_further", further)
+    desk.act("mark")
+    # a mark on a sign is one on its letter too
+    desk.window.cells.select(Span(0, 1))
+    desk.act("mark")
+    assert asked == [
+        "The note of a mark on “s”, cell 18:",
+        "The note of a mark on “T”, cells 1 to 2:",
+    ]
+
+
 def test_page_and_line_are_said_of_what_is_gone_to(desk: Desk, given: Answers) -> None:
     desk.page_size = PageSize(10, 3)
     desk.act("pages_said")

@@ -242,12 +242,17 @@ class OpenBook:
         cell = max(0, min(cell, len(reading.its.braille) - 1))
         return highlighted_by_cell(self._session, reading.its, cell)
 
-    def words_of(self, reading: ChosenParagraph, cells: Span) -> str:
-        """The words that cells stand for."""
+    def words_of(self, reading: ChosenParagraph, cells: Span) -> tuple[str, Span]:
+        """The words that cells stand for, and all cells of these."""
         its = reading.its
         number = its.paragraph.id
         words = words_of(self._session, number, cells, its.text, its.braille)
-        return its.text[words.start : words.stop]
+        if words.start < words.stop:
+            first = self.by_character(reading, words.start).cells
+            cells = Span(
+                first.start, self.by_character(reading, words.stop - 1).cells.stop
+            )
+        return its.text[words.start : words.stop], cells
 
     def cells_of(self, paragraph: int, words: Span) -> Span:
         """The cells on which a mark on words stands."""

@@ -248,7 +248,7 @@ class Desk:
         """Where the window is, unless nothing is chosen or a new paragraph is typed."""
         if self.number is None or self.new is not None:
             return None
-        in_cells = self.window.cells.hasFocus()
+        in_cells = self.is_in_cells
         place = self.window.cells.place if in_cells else self.window.print.place
         before = self._left or LeftAt(self.number, 0)
         return replace(before, paragraph=self.number, place=place, is_in_cells=in_cells)
@@ -414,9 +414,14 @@ class Desk:
         return self.reading.its.paragraph
 
     @property
+    def is_in_cells(self) -> bool:
+        """Whether keys are those of the cells, also where a dialog has only just given them back."""
+        return self.window.focusWidget() is self.window.cells
+
+    @property
     def place(self) -> int:
         """The character at the caret, or that of the cell at the caret."""
-        if self.window.cells.hasFocus() and self._light is not None:
+        if self.is_in_cells and self._light is not None:
             return self._light.words.start
         return self.window.print.place
 
@@ -629,11 +634,11 @@ class Desk:
     # the carets of print and braille, which go with each other
 
     def _in_print(self) -> None:
-        if not self._is_showing and not self.window.cells.hasFocus():
+        if not self._is_showing and not self.is_in_cells:
             self.link(True)
 
     def _in_cells(self) -> None:
-        if not self._is_showing and self.window.cells.hasFocus():
+        if not self._is_showing and self.is_in_cells:
             self.link(True)
 
     def link(self, is_moved: bool = False) -> None:
@@ -646,7 +651,7 @@ class Desk:
             self._light = None
             self._unlinked()
             return
-        by_cell = window.cells.hasFocus()
+        by_cell = self.is_in_cells
         place = window.cells.place if by_cell else window.print.place
         seek = self.book.by_cell if by_cell else self.book.by_character
         with self.failures():

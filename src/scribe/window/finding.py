@@ -26,7 +26,7 @@ class Finding:
     def find(self) -> None:
         """Asks for words, or for cells where the focus is on cells, and goes to the next."""
         desk = self.desk
-        is_cells = desk.window.cells.hasFocus()
+        is_cells = desk.is_in_cells
         if not desk.settle():
             return
         selected = desk.window.print.textCursor().selectedText()
@@ -47,7 +47,7 @@ class Finding:
 
     def find_next(self) -> None:
         """Goes to the next place of what was looked for."""
-        is_cells = self.desk.window.cells.hasFocus()
+        is_cells = self.desk.is_in_cells
         if not self.sought:
             self.find()
         elif self.desk.settle():

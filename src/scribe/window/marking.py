@@ -24,7 +24,7 @@ class Marking:
     def mark(self) -> None:
         """Puts a mark on what is selected, or on what the caret stands on, with a note."""
         desk, window = self.desk, self.desk.window
-        on_cells = window.cells.hasFocus()
+        on_cells = desk.is_in_cells
         cells, words = window.cells.selected, window.print.selected
         words = Span(desk.as_kept(words.start), desk.as_kept(words.stop))
         number = self.desk.settled()
@@ -60,8 +60,8 @@ class Marking:
 
         typed(note)
         try:
-            words = desk.asked(partial(desk.book.words_of, reading, cells))
-            asked = f"The note of a mark on {quoted(words)}, {cells.counted('cell')}:"
+            words, marked = desk.asked(partial(desk.book.words_of, reading, cells))
+            asked = f"The note of a mark on {quoted(words)}, {marked.counted('cell')}:"
             title = f"Mark in paragraph {number}"
             found = dialogs.text_further(desk.window, title, asked, note, typed)
             if found is None:
