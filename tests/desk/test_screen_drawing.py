@@ -308,11 +308,11 @@ def test_two_lines_show_what_is_asked_looked_at_or_said_at_the_cursor() -> None:
     looked_at = replace(state, pages=Pages("All keys.", ("Up: goes up", "q: ends")))
     closed = Pages("The book is closed.", ("It is gone.",))
     for shown, line in (
-        (looked_at, "All keys. Lines 1 to 1 of 2."),
+        (looked_at, "All keys. 2 lines."),
         (replace(looked_at, pages=replace(closed, place=0)), "It is gone."),
         (
             replace(state, is_lost=True, pages=closed),
-            f"{closed.title} Lines 1 to 1 of 1.",
+            f"{closed.title} 1 line.",
         ),
         (looked_at.saying("No more."), "No more."),
     ):

@@ -99,7 +99,7 @@ def test_n_goes_from_mark_to_mark_in_their_list(tides: Path, sit: Sit) -> None:
     sat.press("M", "N", "enter")
     assert (sat.state.chosen, sat.state.place) == (1, 39 * 30 + 20)
     sat.press("M", "n", "n", "n")
-    assert sat.state.message == "There are no more lines that way."
+    assert sat.state.message == "There are no more places that way."
 
 
 def test_page_and_line_of_what_is_gone_to_are_said_where_that_is_wanted(

@@ -137,7 +137,8 @@ def test_few_lines_show_how_a_question_is_answered_and_the_line_of_a_list(
     sat.press("n", "M")
     assert of_cursor(sat)[0].startswith("Mark 1, open, ")
     sat.press("home")
-    assert of_cursor(sat)[0].startswith("1 open mark. Lines 1 to ")
+    what = "Lines 1 to " if lines > 3 else "2 lines."
+    assert of_cursor(sat)[0].startswith(f"1 open mark. {what}")
 
 
 def test_a_terminal_of_three_lines_shows_what_is_said(moon: Path, at: Open) -> None:

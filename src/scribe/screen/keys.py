@@ -130,7 +130,8 @@ def _looking(state: State, pages: Pages, key: str) -> State:
     if key in ("n", "N") and pages.targets and pages.offer is None:
         moved = pager.beside(pages, state.size, 1 if key == "n" else -1)
     if moved == pages:
-        return state.saying("There are no more lines that way.")
+        what = "places" if key in ("n", "N") else "lines"
+        return state.saying(f"There are no more {what} that way.")
     if moved is not None:
         return replace(state, pages=moved)
     if state.is_lost:

@@ -7,6 +7,7 @@ from braildesk.text.characters import visible
 from braildesk.text.wrapping import wrap
 
 from scribe.screen.state import HEAD_LINE, Pages, Size, Target
+from scribe.words.paragraph import counted
 
 #: The row for what is said below the lines.
 SAID = 1
@@ -39,6 +40,10 @@ def seen(pages: Pages, size: Size) -> Seen:
     shown = lines[top : top + most]
     head = f"{pages.title} Lines {top + 1} to {top + len(shown)} of {len(lines)}."
     wrapped = tuple(wrap(visible(head), size.columns))
+    if pages.place == HEAD_LINE and len(wrapped) >= size.lines - OTHERS:
+        # no line is seen beside it
+        head = f"{pages.title} {counted(len(lines), 'line')}."
+        wrapped = tuple(wrap(visible(head), size.columns))
     is_seen = top <= pages.place < top + len(shown)
     return Seen(wrapped, shown, len(wrapped) + pages.place - top if is_seen else 0)
 
