@@ -408,6 +408,23 @@ def test_pages_that_differ_from_the_older_file_are_named(moon: Path) -> None:
     changed = (moon.parent / "out" / "moon-1-changed.brf").read_bytes()
     assert changed == pages[3] + b"\f" + pages[10] + b"\f"
     with Session(moon) as session:
+        session.correct(12, 0, 4, "star")
+    limit = len(changed), len(changed)
+    cut = scribe(
+        "export",
+        moon,
+        "out",
+        *SIZES,
+        "--only-changed",
+        folder=moon.parent,
+        before=lambda: resource.setrlimit(resource.RLIMIT_FSIZE, limit),
+    )
+    assert cut.status == 3 and cut.said == (
+        "Volume 1 could not be written: File too large. out/moon-1.brf is as it was."
+        " out/moon-1-changed.brf is new, with the pages that change in it.\n"
+    )
+    with Session(moon) as session:
+        session.correct(12, 0, 4, "moon")
         for number in range(20, 44):
             session.strike(number)
     ran = scribe("export", moon, "out", *SIZES, folder=moon.parent)

@@ -174,10 +174,19 @@ class NoFolder(Problem):
 
 
 class NotWritten(Problem):
-    """The file of a volume couldn't be written, or `MayNotLast`; the files of the others."""
+    """The file of a volume couldn't be written, or `MayNotLast`; the files of the others.
+
+    Its changed pages may have been written to a file of their own.
+    """
 
     def __init__(
-        self, volume: int, file: Path, cause: OSError, is_there: bool, files: Files
+        self,
+        volume: int,
+        file: Path,
+        cause: OSError,
+        is_there: bool,
+        files: Files,
+        changed: Path | None = None,
     ) -> None:
         super().__init__(volume, file, cause)
         self.volume = volume
@@ -185,6 +194,7 @@ class NotWritten(Problem):
         self.cause = cause
         self.is_there = is_there
         self.files = files
+        self.changed = changed
 
 
 class Export:
@@ -226,7 +236,7 @@ class Export:
                 yield LeftOut(volume, file, pages, os.path.lexists(file))
                 continue
             differences, changed = self._compared(volume, pages)
-            self.write(volume, file, pages)
+            self.write(volume, file, pages, changed)
             self._written.append(volume)
             yield Written(volume, file, *_size(pages), differences, changed)
 
@@ -305,14 +315,19 @@ class Export:
         self.changed_files.append(file)
         return differences, file
 
-    def write(self, volume: int, file: Path, pages: bytes) -> None:
-        """Writes a volume, or pages of it, after some others; raises `NotWritten`."""
+    def write(
+        self, volume: int, file: Path, pages: bytes, changed: Path | None = None
+    ) -> None:
+        """Writes a volume, or pages of it, after some others; raises `NotWritten`.
+
+        Its changed pages may have been written to a file of their own.
+        """
         is_there = os.path.lexists(file)
         try:
             write_whole(file, pages, Access.of(self.job.book))
         except OSError as cause:
             files = self._files(self._written, range(volume + 1, self.volumes + 1))
-            raise NotWritten(volume, file, cause, is_there, files) from cause
+            raise NotWritten(volume, file, cause, is_there, files, changed) from cause
 
 
 def export_pages(

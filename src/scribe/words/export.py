@@ -139,9 +139,12 @@ def not_written(fault: NotWritten) -> str:
     left = "is as it was" if fault.is_there else "was not made"
     if isinstance(fault.cause, Swapped):
         left = "isn't what was exported"
+    pages = ""
+    if fault.changed is not None:
+        pages = f" {fault.changed} is new, with the pages that change in it."
     return (
         f"Volume {fault.volume} could not be written: {fault.cause.strerror}. {fault.file}"
-        f" {left}.{_files(fault.files)}"
+        f" {left}.{pages}{_files(fault.files)}"
     )
 
 
