@@ -41,6 +41,25 @@ def test_a_file_of_ones_own_gets_other_bytes_and_keeps_its_permissions(
     assert os.listdir(tmp_path) == ["pages.brf"]
 
 
+@NEEDS_ROOT
+def test_a_file_of_ones_own_keeps_its_group_or_gives_another_one_nothing(
+    tmp_path: Path, monkeypatch: pytest.MonkeyPatch
+) -> None:
+    file = tmp_path / "pages.brf"
+    file.write_bytes(b"older")
+    os.chown(file, -1, STRANGER)
+    file.chmod(0o664)
+    write_whole(file, b"newer")
+    assert (file.stat().st_gid, mode(file)) == (STRANGER, 0o664)
+
+    def refuse(file: int, owner: int, group: int) -> None:
+        raise PermissionError(errno.EPERM, "Operation not permitted")
+
+    monkeypatch.setattr(os, "fchown", refuse)
+    write_whole(file, b"newest")
+    assert (file.stat().st_gid, mode(file)) == (os.getegid(), 0o644)
+
+
 def test_no_file_that_is_written_can_be_run_or_takes_its_owners_rights(
     tmp_path: Path,
 ) -> None:

@@ -68,6 +68,14 @@ class Access(Value):
         return cls(mode_of(path, found) & ANYONE, found.st_gid, listed)
 
 
+@dataclass(frozen=True, eq=False, repr=False)
+class Kept(Value):
+    """The permissions of a file of one's own that is replaced, and the group that they mean."""
+
+    mode: int
+    group: int
+
+
 def write_whole(
     path: Path,
     data: bytes,
@@ -111,7 +119,7 @@ def judge_place(path: Path, replaces: Replaces) -> None:
 
 
 def replace_in(
-    folder: int, name: str, data: bytes, access: Access, kept: int | None = None
+    folder: int, name: str, data: bytes, access: Access, kept: Kept | None = None
 ) -> None:
     """Gives a name in an open folder these bytes, as a new file.
 
@@ -146,7 +154,7 @@ def remove_from(folder: int, name: str) -> None:
         pass
 
 
-def _kept_permissions(name: str, folder: int, replaces: Replaces | None) -> int | None:
+def _kept_permissions(name: str, folder: int, replaces: Replaces | None) -> Kept | None:
     """The permissions of a file of one's own that is to be replaced, else none."""
     try:
         older = os.stat(name, dir_fd=folder, follow_symlinks=False)
@@ -170,9 +178,9 @@ def _kept_permissions(name: str, folder: int, replaces: Replaces | None) -> int 
         is_link = stat.S_ISLNK(older.st_mode)
         leads_to = os.readlink(name, dir_fd=folder) if is_link else None
         raise AnotherIsThere(name, older.st_mode, leads_to)
-    if not is_file:
+    if not is_file or older.st_uid != os.geteuid():
         return None
-    return older.st_mode & ANYONE if older.st_uid == os.geteuid() else None
+    return Kept(older.st_mode & ANYONE, older.st_gid)
 
 
 def _head(name: str, folder: int) -> bytes:
@@ -209,7 +217,7 @@ def _is_there(name: str, folder: int, written: os.stat_result, data: bytes) -> b
 
 
 def _write(
-    name: str, folder: int, data: bytes, access: Access, kept: int | None
+    name: str, folder: int, data: bytes, access: Access, kept: Kept | None
 ) -> os.stat_result:
     """Makes a file with these bytes, on the disk, and says what it is."""
     flags = os.O_WRONLY | os.O_CREAT | os.O_EXCL | os.O_NOFOLLOW | os.O_CLOEXEC
@@ -218,7 +226,7 @@ def _write(
         created |= access.listed
     with open(os.open(name, flags, created, dir_fd=folder), "wb") as file:
         if kept is not None:
-            os.fchmod(file.fileno(), kept)
+            _keep(file.fileno(), kept)
         elif access.group is not None:
             with suppress(OSError):
                 limit_group(file.fileno(), access.mode)
@@ -227,6 +235,17 @@ def _write(
         file.flush()
         os.fsync(file.fileno())
         return os.fstat(file.fileno())
+
+
+def _keep(file: int, kept: Kept) -> None:
+    """Gives a file the group and the permissions of another; any other group may do no more than others."""
+    mode = kept.mode
+    try:
+        os.fchown(file, -1, kept.group)
+    except OSError:
+        if os.fstat(file).st_gid != kept.group:
+            mode &= ~stat.S_IRWXG | (mode & stat.S_IRWXO) << 3
+    os.fchmod(file, mode)
 
 
 def _take_group(file: int, folder: int, mode: int, group: int) -> None:
