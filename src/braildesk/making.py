@@ -511,23 +511,30 @@ def _empty_log(target: _Target, older: BinaryIO) -> None:
 
 
 def _filled(stack: ExitStack, older: BinaryIO, log: BinaryIO) -> BinaryIO | None:
-    """A copy of a file with what stands in its log; none if a program would find no book there."""
+    """A copy of a file with what stands in its log; none if a program would find no book there, or another."""
     made = stack.enter_context(_temporary())
     whole = stack.enter_context(create(made))
     copy_bytes(older.fileno(), whole.fileno())
     with create(Path(f"{made}-wal")) as work:
         copy_bytes(log.fileno(), work.fileno())
+    changes = opening.changes_in(f"{made}-wal")
     try:
         with closing(sqlite3.connect(made)) as database:
             database.execute("PRAGMA trusted_schema = OFF")
             database.set_progress_handler(lambda: 1, opening.STEPS)
             database.execute("PRAGMA locking_mode = EXCLUSIVE")
             database.execute("PRAGMA wal_checkpoint(TRUNCATE)").fetchone()
+            database.set_progress_handler(None, 0)
+            is_whole = database.execute("PRAGMA quick_check(1)").fetchone() == ("ok",)
     except sqlite3.OperationalError:
         raise
     except sqlite3.DatabaseError:
         return None
-    return whole
+    # by a log that isn't its own the file would be damaged, or another book
+    alone = Path(f"/proc/self/fd/{older.fileno()}")
+    if not is_whole or any(opening.fault_in(each, True) for each in (alone, made)):
+        return None
+    return whole if opening.goes_on(alone, made, changes) else None
 
 
 def _why_not_filled(error: OSError | Failed | sqlite3.OperationalError) -> str:

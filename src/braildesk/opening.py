@@ -197,12 +197,17 @@ def begins_as_book(file: BinaryIO) -> bool:
 
 
 def is_of_others(path: str | PathLike[str]) -> bool:
-    """Whether a file is seen to be a database of something else: it can be read, and lacks a table of books."""
+    """Whether a file is seen to be a database of something else: it can be read, and lacks a table of books.
+
+    So is one without tables beside which a log has work, in which they may stand.
+    """
     try:
         with closing(reader(path, True)) as database:
             query = "SELECT count(*) FROM main.sqlite_schema"
             ((count,),) = database.execute(query)
-            return count > 0 and not _OF_ALL_BOOKS <= _tables_in(database).keys()
+            if not count:
+                return has_work(f"{fspath(path)}-wal")
+            return not _OF_ALL_BOOKS <= _tables_in(database).keys()
     except sqlite3.Error:
         return False
 

@@ -1,5 +1,6 @@
 """`scribe copy`: what is at the path of a copy stays, unless it is a book and the words say so."""
 
+import errno
 import os
 import shutil
 import sqlite3
@@ -66,6 +67,41 @@ def test_nothing_but_a_book_is_replaced(moon: Path, kind: str) -> None:
         assert ran.said == (
             "“other” is no book, and was left as it is. Take another path for the copy.\n"
         )
+
+
+def test_no_database_is_replaced_whose_tables_stand_in_its_log(moon: Path) -> None:
+    other, letters = moon.with_name("other"), moon.with_name("letters")
+    with closing(sqlite3.connect(letters)) as database:
+        database.execute("PRAGMA journal_mode = WAL")
+        database.execute("CREATE TABLE letters (text)")
+        for ending in ("", "-wal"):
+            shutil.copyfile(f"{letters}{ending}", f"{other}{ending}")
+    log = Path(f"{other}-wal").read_bytes()
+    ran = copy(moon, "--overwrite")
+    assert (ran.status, Path(f"{other}-wal").read_bytes()) == (2, log)
+    assert ran.said.startswith("“other” is no book, and was left as it is.")
+
+
+def test_a_book_is_as_it_was_beside_a_log_of_another_where_no_copy_takes_its_place(
+    moon: Path, monkeypatch: pytest.MonkeyPatch
+) -> None:
+    other, third = moon.with_name("other"), moon.with_name("third")
+    braildesk.copy(moon, other)
+    braildesk.new_book(third)
+    with Session(third) as session:
+        session.put_table("en", moon.with_name("plain.utb").read_bytes())
+        for number in range(200):
+            session.add_paragraph("end", "en", f"star {number}")
+        shutil.copyfile(f"{third}-wal", f"{other}-wal")
+    before = other.read_bytes(), Path(f"{other}-wal").read_bytes()
+
+    def fail(*_: object) -> None:
+        raise PermissionError(errno.EPERM, "Operation not permitted")
+
+    monkeypatch.setattr("braildesk.making.put_over", fail)
+    with pytest.raises(braildesk.DeskError, match="Operation not permitted"):
+        braildesk.copy(third, other, overwrite=True)
+    assert (other.read_bytes(), Path(f"{other}-wal").read_bytes()) == before
 
 
 def test_what_is_put_in_place_of_a_book_meanwhile_is_not_replaced(
