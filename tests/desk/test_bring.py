@@ -271,6 +271,12 @@ def test_without_a_table_the_list_is_named(tmp_path: Path) -> None:
     assert refused(tmp_path).startswith("Which table is to be brought over?")
 
 
+def test_a_list_is_written_to_no_file(tmp_path: Path) -> None:
+    ran = scribe("bring", "--list", "Finnish", "finnish.utb", folder=tmp_path)
+    assert (ran.status, ran.shown) == (1, "")
+    assert ran.said.startswith("Argument FILE: --list shows tables, and writes none.\n")
+
+
 def test_characters_that_texts_often_have_and_a_table_lacks_are_named(
     brought: Mapping[str, Converted]
 ) -> None:

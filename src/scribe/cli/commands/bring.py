@@ -25,7 +25,7 @@ from braildesk.tables.convert.tailoring import Manuscript, tailor
 from braildesk.workshop import MayNotLast
 
 from scribe.cli.opened_book import as_kept
-from scribe.cli.parser import Subparsers, command_parser, readable
+from scribe.cli.parser import Subparsers, WordsRefused, command_parser, readable
 from scribe.words.console import Console
 from scribe.words.import_text import unreadable
 from scribe.words.status import Status, Stop, left_there, may_not_last, status_of
@@ -101,6 +101,7 @@ def add_parser(subparsers: Subparsers) -> ArgumentParser:
         action="store_true",
         help="replace a FILE that isn't as bring wrote it, unless it is a book",
     )
+    parser.set_defaults(usage=parser.format_usage().strip())
     return parser
 
 
@@ -130,6 +131,10 @@ def _add_files(parser: ArgumentParser) -> None:
 def run(arguments: Namespace, console: Console) -> Status:
     """Shows the tables, or brings one over."""
     if arguments.list:
+        if arguments.file is not None:
+            raise WordsRefused(
+                "Argument FILE: --list shows tables, and writes none.", arguments.usage
+            )
         lines = listed(arguments.table)
         console.show(*lines)
         if len(lines) > 1:
