@@ -8,6 +8,7 @@ from hypothesis import given
 from hypothesis import strategies as st
 from tool import Ran, scribe
 
+import braildesk
 from braildesk import Session
 from braildesk.desk.documents.kinds import ManuscriptKind
 from braildesk.desk.documents.reading import Manuscript, Missing
@@ -234,3 +235,32 @@ def test_a_long_text_of_other_words_is_parted_at_words_that_stand_once() -> None
     wanted = sum(text.count("7 ") for _, text in book)
     assert len(found) == wanted > 1_000
     assert all(isinstance(each, OtherWords) for each in found)
+
+
+def test_a_book_of_which_the_session_ends_is_not_taken_for_the_one_it_is_compared_with(
+    moon: Path,
+) -> None:
+    shutil.copyfile(moon, moon.with_name("other.braildesk"))
+    program, found = moon.with_name("cut short"), braildesk.find()
+    program.write_text(
+        "#!/bin/sh\n"
+        f'[ "$1 $3" = "session other.braildesk" ] || exec \'{found}\' "$@"\n'
+        f"head -n 1 | '{found}' \"$@\"\nkill -9 $$\n"
+    )
+    program.chmod(0o755)
+
+    def ran(*words: str | Path, given: str = "") -> Ran:
+        its = str(program)
+        return scribe(*words, folder=moon.parent, given=given, BRAILDESK=its)
+
+    said = (
+        "The book “other.braildesk” was not read to its end. The session was ended by"
+        " signal 9. Nothing was changed by this session.\n"
+    )
+    assert ran("compare", moon, "other.braildesk") == Ran(3, "", said)
+    talk = ran(
+        "talk", moon, "--width", "200", given="compare other.braildesk\nversion\n"
+    )
+    assert (talk.status, talk.said) == (0, said)
+    assert talk.shown.endswith("The book is at version 7.\n" * 2)
+    assert ran("bring", "fi.utb", "--for", "other.braildesk") == Ran(3, "", said)

@@ -6,7 +6,7 @@ from itertools import takewhile
 from pathlib import Path
 from typing import TYPE_CHECKING
 
-from braildesk import CannotOpen, Session, Style, Why
+from braildesk import CannotOpen, Failed, Lost, Session, Style, Why
 from braildesk.desk.documents.kinds import (
     ManuscriptKind,
     NoDocument,
@@ -29,6 +29,7 @@ from braildesk.desk.replacements import Replaced, Replacer
 from braildesk.named_files import TooLarge, is_handed_over, open_file, read_file
 from braildesk.protocol.value import Value
 from braildesk.text import limits
+from braildesk.text.characters import shortened
 
 if TYPE_CHECKING:
     from braildesk.desk.documents.reading import Manuscript
@@ -147,6 +148,16 @@ def _is_book(path: Path) -> bool:
 
 
 def _of_book(path: Path, wait: float) -> "Manuscript":
+    """A book as it is read; `Failed` if its session is lost, which isn't that of any other book."""
+    try:
+        return _of_open_book(path, wait)
+    except Lost as lost:
+        name = shortened(str(path), len(str(path)))
+        said = f"The book {name} was not read to its end. {lost.sentence}"
+        raise Failed(said) from lost
+
+
+def _of_open_book(path: Path, wait: float) -> "Manuscript":
     """A book, or a copy of it where it can't be opened: what another program had kept a moment ago."""
     try:
         session = Session(path, timeout=wait)
