@@ -88,7 +88,7 @@ def test_letters_that_are_written_otherwise_are_not_said_to_be_capitals(
     assert find(empty_book, "Masse", "--alike") == Ran(
         0,
         "Paragraph 1, character 17: Die Straße, die [Maße]\n",
-        "Found “Masse” once, with a letter written otherwise too.\n",
+        "Found “Masse” once, with a letter written otherwise.\n",
     )
 
 

@@ -101,19 +101,22 @@ class Tally:
     count: int = 0
     paragraphs: int = 0
     kinds: tuple[Variant, ...] = ()
+    #: Whether any of them is what was looked for.
+    has_same: bool = False
 
     def with_hit(self, hit: Hit) -> "Tally":
         """With those of another paragraph, which are what was looked for."""
-        return Tally(self.count + len(hit.places), self.paragraphs + 1, self.kinds)
+        count = self.count + len(hit.places)
+        return Tally(count, self.paragraphs + 1, self.kinds, has_same=True)
 
     def with_alike(self, hit: Hit, sought: str) -> "Tally":
         """With those of another paragraph, which are like it."""
-        found = {hit.text[start:stop] for start, stop in hit.places} - {sought}
-        if not found:
-            return self.with_hit(hit)
-        kinds = set(self.kinds).union(*(unlike(sought, words) for words in found))
+        words = {hit.text[start:stop] for start, stop in hit.places}
+        found = [unlike(sought, others) for others in words - {sought}]
+        kinds = set(self.kinds).union(*found)
         its = tuple(kind for kind in Variant if kind in kinds)
-        return replace(self.with_hit(hit), kinds=its)
+        has_same = self.has_same or sought in words or () in found
+        return replace(self.with_hit(hit), kinds=its, has_same=has_same)
 
 
 def tallied(found: Iterable[Hit], sought: str) -> Tally:

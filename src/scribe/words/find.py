@@ -79,7 +79,8 @@ def found_summary(text: str, tally: Tally, others: Tally, offer: str) -> str:
         )
     if not tally.count:
         return f"{quoted(text)} isn't in the book."
-    how = f", with {in_words(tally.kinds)} too" if tally.kinds else ""
+    too = " too" if tally.has_same else ""
+    how = f", with {in_words(tally.kinds)}{too}" if tally.kinds else ""
     return f"Found {quoted(text)} {_counted(tally)}{how}."
 
 
