@@ -55,6 +55,14 @@ def test_a_mark_stands_on_its_words_and_nothing_beside_them(moon: Path) -> None:
     assert marks_of(moon) == (Mark(1, 20, 23, False, False, "who were they?"),)
 
 
+def test_a_control_character_of_a_note_is_counted_within_the_note(moon: Path) -> None:
+    ran = mark(moon, "1", "men", "who\nwere they?")
+    assert (ran.status, ran.shown) == (1, "")
+    assert ran.said.startswith(
+        "Argument NOTE: Character 4 of the text is U+000A LINE FEED, a control character. "
+    )
+
+
 def test_the_signs_before_a_number_and_a_capital_belong_to_their_characters(
     moon: Path,
 ) -> None:

@@ -111,10 +111,11 @@ def broken_after(count: int) -> str:
     return f"after its first {'character' if count == 1 else f'{count:,} characters'}"
 
 
-def control_refused(line: bytes) -> str | None:
+def control_refused(line: bytes, what: str = "line") -> str | None:
     """Why a line with a text or a note isn't sent: the control character that it has, or None.
 
-    The tab isn't refused, nor are format characters, which texts of many languages need.
+    The tab isn't refused, nor are format characters, which texts of many languages need. What is a
+    part of a line is called otherwise.
     """
     found = _CONTROL.search(line)
     if found is None:
@@ -122,7 +123,7 @@ def control_refused(line: bytes) -> str | None:
     before = line[: found.start()].decode("utf-8", "replace")
     character = found.group().decode()
     return (
-        f"Character {len(before) + 1} of the line is {code_and_name(character)}, a control"
+        f"Character {len(before) + 1} of the {what} is {code_and_name(character)}, a control"
         " character. Texts and notes can't have one here. Nothing was changed."
     )
 

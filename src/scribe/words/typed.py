@@ -53,7 +53,7 @@ def text(word: str) -> str:
     """A text or a note, which has no control character but the tab."""
     if any(ord(character) in _LONE for character in word):
         raise InvalidInput("it is not UTF-8")
-    refused = control_refused(word.encode())
+    refused = control_refused(word.encode(), "text")
     if refused is not None:
         raise InvalidInput(refused)
     return word
