@@ -472,6 +472,13 @@ def test_pages_that_are_none_are_refused(moon: Path, words: tuple[str, ...]) -> 
     assert not (moon.parent / "out").exists()
 
 
+def test_a_range_of_pages_that_goes_backwards_is_refused(moon: Path) -> None:
+    ran = scribe("export", moon, "out", *SIZES, "--page", "1,3-2", folder=moon.parent)
+    assert (ran.status, ran.shown) == (1, "")
+    assert ran.said.startswith("Argument --page: 2 comes before 3: ask for 2-3.\n")
+    assert not (moon.parent / "out").exists()
+
+
 PAGES = st.lists(st.sampled_from([b"A\r\n\f", b"B\r\n\f", b"\r\n\f"]), max_size=8)
 
 

@@ -21,6 +21,8 @@ _ESCAPED = re.compile(r"\\(.)", re.DOTALL)
 _RANGE = re.compile(r"([0-9]+)?(?:(-)([0-9]+)?)?")
 #: The digits of a number in the requests of a book at most.
 _DIGITS = 16
+#: The first and the last of a range, none where it isn't said.
+_Ends = tuple[int | None, int | None]
 
 
 class InvalidInput(ValueError):
@@ -99,10 +101,10 @@ def page_ranges(word: str) -> "tuple[PageRange, ...]":
     """The ranges of pages that a word names, as in `3-9,12`."""
     from braildesk.desk.ranges import PageRange  # as above
 
-    return tuple(PageRange(*ends) for ends in _ranges(word, "page"))
+    return tuple(PageRange(*ends) for ends in _in_order(_ranges(word, "page")))
 
 
-def _ranges(word: str, what: str) -> Iterator[tuple[int | None, int | None]]:
+def _ranges(word: str, what: str) -> Iterator[_Ends]:
     """The ends of ranges of things."""
     for part in word.split(","):
         match = _RANGE.fullmatch(part)
@@ -111,6 +113,14 @@ def _ranges(word: str, what: str) -> Iterator[tuple[int | None, int | None]]:
         first = number(match[1]) if match[1] else None
         last = number(match[3]) if match[3] else None
         yield first, last if match[2] else first
+
+
+def _in_order(ranges: Iterator[_Ends]) -> Iterator[_Ends]:
+    """Ranges of things that stand in the order of their numbers."""
+    for first, last in ranges:
+        if first is not None and last is not None and last < first:
+            raise InvalidInput(f"{last} comes before {first}: ask for {last}-{first}")
+        yield first, last
 
 
 def words_of(line: str) -> list[str]:
