@@ -88,6 +88,12 @@ def test_one_line_of_a_page_is_shown_with_its_words(moon: Path) -> None:
         1,
         "Argument --line: say the page by --page.",
     )
+    for line in ("0", "9"):
+        ran = pages(moon, "--page", "1", "--line", line, *SIZE)
+        assert (ran.status, ran.said.splitlines()[0]) == (
+            1,
+            "Argument --line: a page has the lines 1 to 8.",
+        )
 
 
 def test_words_and_marks_are_found_with_their_pages(moon: Path) -> None:
@@ -173,6 +179,7 @@ def test_a_paragraph_on_two_pages_is_shown_from_one_to_the_other(moon: Path) -> 
         # it is in the second volume, as the list of that has it too
         (("--paragraph", "6"), "Paragraph 6 has no words, and takes no line."),
         (("2", "--paragraph", "6"), "Paragraph 6 has no words, and takes no line."),
+        (("1", "--page", "0", "--line", "1"), "Volume 1 has no page 0."),
     ],
 )
 def test_what_is_not_there_is_refused(

@@ -54,9 +54,14 @@ def add_words(parser: Parser) -> None:
 
 
 def judge(arguments: Namespace) -> None:
-    """Refuses a line of no page."""
-    if arguments.line is not None and arguments.page is None:
+    """Refuses a line of no page, and one that no page has."""
+    line, lines = arguments.line, arguments.lines
+    if line is not None and arguments.page is None:
         raise WordsRefused("Argument --line: say the page by --page.", arguments.usage)
+    if line is not None and not 1 <= line <= lines:
+        raise WordsRefused(
+            f"Argument --line: a page has the lines 1 to {lines}.", arguments.usage
+        )
 
 
 def answer(session: Session, arguments: Namespace, console: Console) -> None:
@@ -164,7 +169,7 @@ def shown(session: Session, volumes: list[Volume], arguments: Namespace) -> list
     """What is shown of each volume: of a page or a line of it, of a paragraph, or of each."""
     page, line, paragraph = arguments.page, arguments.line, arguments.paragraph
     numbers = [its.number for its in volumes]
-    if line is not None and any(page <= its.layout.pages for its in volumes):
+    if line is not None and any(0 < page <= its.layout.pages for its in volumes):
         found = [(its, rows_on(its.layout, page, line)) for its in volumes]
         return _detailed(session, found, no_words(numbers, page, line))
     if page is not None:
