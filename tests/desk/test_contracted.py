@@ -1042,18 +1042,26 @@ def test_which_table_is_tuned_has_to_be_clear(book: Path) -> None:
     folder = book.parent
     small(folder)
     words = ("tune", "book.braildesk", "small.utb")
-    assert scribe(*words, folder=folder).said == (
-        "The book has no paragraph, so there is nothing to compare.\n"
+    none = (
+        "The book has no paragraph that isn't struck, so there is nothing to compare.\n"
     )
+    assert scribe(*words, folder=folder).said == none
     with Session(book) as session:
         session.put_table("own", SMALL_TABLE)
         session.add_paragraph("end", "en", "The moon.")
+        session.strike(1)
+    assert scribe(*words, folder=folder).said == none
+    assert scribe(*words, "--table", "en", folder=folder).said == (
+        "No paragraph that isn't struck has the table en.\n"
+    )
+    with Session(book) as session:
+        session.restore(1)
         session.add_paragraph("end", "own", "a")
     assert scribe(*words, folder=folder).said == (
         "Paragraphs of the book have the tables en, own. Say which by --table.\n"
     )
     assert scribe(*words, "--table", "none", folder=folder).said == (
-        "No paragraph of the book has the table none.\n"
+        "No paragraph that isn't struck has the table none.\n"
     )
 
 

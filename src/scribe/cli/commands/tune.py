@@ -141,9 +141,11 @@ def _table_name(asked: str | None, paragraphs: Sequence[Paragraph]) -> str:
     """The table that is asked for, or else the only one that paragraphs have."""
     used = Counter(each.table for each in paragraphs)
     if asked is not None and asked not in used:
-        raise Stop(f"No paragraph of the book has the table {asked}.")
+        raise Stop(f"No paragraph that isn't struck has the table {asked}.")
     if not used:
-        raise Stop("The book has no paragraph, so there is nothing to compare.")
+        raise Stop(
+            "The book has no paragraph that isn't struck, so there is nothing to compare."
+        )
     if asked is None and len(used) > 1:
         raise Stop(
             f"Paragraphs of the book have the tables {', '.join(used)}. Say which by --table."
