@@ -93,6 +93,15 @@ CASES = {
             "The book is at version 8.",
         ),
     ),
+    "the first paragraph begins a volume in any case": (
+        ["volume", "1", "off"],
+        shown(
+            "Paragraph 1: begins no volume, as before.",
+            "The moon is far away.",
+            "It begins volume 1 in any case, as the first that isn't struck.",
+            "The book is at version 8.",
+        ),
+    ),
     "a paragraph is moved to the front": (
         ["move", "2", "front"],
         shown(

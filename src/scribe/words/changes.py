@@ -56,7 +56,8 @@ def _carried_out(
         case requests.Style(style=style):
             return _flagged(session, command, _style, width, style=Style(style))
         case requests.Volume(begins=begins):
-            return _flagged(session, command, _volume, width, begins_volume=begins)
+            lines = _flagged(session, command, _volume, width, begins_volume=begins)
+            return [*lines[:-1], *_anyway(session, command.paragraph), lines[-1]]
         case requests.Retable():
             return _retabled(session, command, width, cells)
         case requests.Move():
@@ -168,6 +169,14 @@ def _flagged(
         *_its_words(session, command.paragraph, width),
         at_version(done.version),
     ]
+
+
+def _anyway(session: Session, number: int) -> list[str]:
+    """That a paragraph begins volume 1 whatever is said of it, if it does."""
+    shown = (each.id for each in session.paragraphs() if not each.struck)
+    if next(shown, None) != number:
+        return []
+    return ["It begins volume 1 in any case, as the first that isn't struck."]
 
 
 def _retabled(
