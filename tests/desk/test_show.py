@@ -131,6 +131,14 @@ def test_a_paragraph_that_is_not_there_is_named(moon: Path) -> None:
     )
 
 
+def test_paragraphs_are_named_in_one_way_or_the_other(moon: Path) -> None:
+    ran = show(moon, "2", "--paragraphs", "3")
+    assert (ran.status, ran.shown) == (1, "")
+    assert ran.said.startswith(
+        "Argument --paragraphs: not allowed with argument PARAS.\n"
+    )
+
+
 def test_a_book_without_paragraphs_is_said_to_be_so(book: Path) -> None:
     assert show(book) == Ran(0, "", "The book has no paragraphs.\n")
     assert show(book, "--paragraphs", "1") == Ran(

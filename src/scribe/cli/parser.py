@@ -226,7 +226,7 @@ def add_paragraph(parser: Parser, in_hand: bool = False) -> None:
 
 
 def add_ranges(
-    parser: argparse.ArgumentParser, word: str, does: str = "only these paragraphs"
+    parser: "argparse._ActionsContainer", word: str, does: str = "only these paragraphs"
 ) -> None:
     """Adds a word for ranges of paragraphs, such as 3-9, as `arguments.paragraphs`."""
     # imported here, since few commands take them
@@ -244,14 +244,15 @@ def add_ranges(
 
 def add_paragraphs(parser: argparse.ArgumentParser) -> None:
     """Adds PARAS, the ranges of the paragraphs that are shown, which `asked_ranges` reads."""
-    parser.add_argument(
+    ways = parser.add_mutually_exclusive_group()
+    ways.add_argument(
         "range",
         metavar="PARAS",
         type=argument(typed.paragraph_ranges),
         nargs="?",
         help="only these paragraphs, as in 3-9",
     )
-    add_ranges(parser, "--paragraphs", "the same")
+    add_ranges(ways, "--paragraphs", "the same")
 
 
 def asked_ranges(arguments: argparse.Namespace) -> "tuple[ParagraphRange, ...]":
