@@ -806,6 +806,17 @@ def test_a_talk_takes_lines_from_a_pipe_too(moon: Path) -> None:
     ]
 
 
+@pytest.mark.parametrize("given", ["change 1\nfar\n", "request table own 2\n# a\n"])
+def test_a_line_of_which_the_rest_never_comes_is_given_up(
+    given: str, moon: Path
+) -> None:
+    ran = scribe("talk", moon, folder=moon.parent, given=given)
+    assert ran.shown.splitlines()[-2:] == [
+        "Given up. Nothing was changed.",
+        "The book is at version 7.",
+    ]
+
+
 @pytest.mark.parametrize("name", ["SIGTERM", "SIGHUP", "SIGQUIT"])
 def test_a_talk_that_is_told_to_end_says_so_and_leaves_the_terminal_as_it_was(
     moon: Path, name: str

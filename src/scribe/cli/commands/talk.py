@@ -38,6 +38,7 @@ EXAMPLE = "echo 'change 1 far near' | scribe talk moon.braildesk"
 PROMPT = "> "
 USUAL_WIDTH = 80
 _ENDS = ("quit", "q", "exit")
+_GIVEN_UP = "Given up. Nothing was changed."
 
 
 def add_parser(subparsers: Subparsers) -> ArgumentParser:
@@ -125,10 +126,13 @@ def _talk(conversation: Conversation, file: Path) -> Lost | None:
             if conversation.session.last_version != conversation.shown:
                 conversation.remind()
         except GivenUp:
-            console.show("Given up. Nothing was changed.")
+            console.show(_GIVEN_UP)
         except Stop as stop:
             console.say(*stop.lines)
         except Ended:
+            if conversation.typed:
+                # somebody was asked for more of that line
+                console.show(_GIVEN_UP)
             return None
         except Lost as lost:
             if conversation.may_change:
