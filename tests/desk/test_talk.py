@@ -448,6 +448,19 @@ def test_the_line_before_comes_back(talk: Prompted) -> None:
     assert talk.type("\x1b[A") == ["The book is at version 7."]
 
 
+def test_an_answer_that_is_refused_comes_back(talk: Prompted, moon: Path) -> None:
+    talk.type("mark 1", ": ")
+    talk.type("The moon is fur", ": ")
+    talk.type("\x1b[A\x7f\x7far", ": ")
+    assert "501 characters" in " ".join(talk.type("x" * 501))
+    talk.type("mark 1 moon", ": ")
+    talk.type("\x1b[A\x1b[A\x7f")
+    assert talk.type("version") == ["The book is at version 8."]
+    talk.end("quit\r")
+    with braildesk.Session(moon) as session:
+        assert session.marks_of(1)[-1].note == "x" * 500
+
+
 def test_a_control_character_is_refused(talk: Prompted) -> None:
     assert talk.type("request mark 1 0 3 a\x16\x1bb") == [
         "Character 13 of the line is U+001B",

@@ -6,13 +6,11 @@ from types import TracebackType
 
 from braildesk.desk.drafts import Drafts, NotKept
 
-from scribe.prompt.conversation import Conversation
+from scribe.prompt.conversation import FEW, Conversation
 from scribe.prompt.typed_lines import TypedLines
 from scribe.words.console import OutputFailed
 from scribe.words.drafts import not_kept
 
-# what is no longer is typed again sooner than it is looked for
-_FEW = 3
 _COMES_BACK = "Up brings back what was typed as a talk was broken off:"
 
 
@@ -50,7 +48,7 @@ class BrokenOff(AbstractContextManager["BrokenOff"]):
         typed = [*its.typed, self._lines.broken_off]
         if not its.may_change:
             typed = typed[-1:]
-        new = [each for each in typed if len(each.strip()) > _FEW]
+        new = [each for each in typed if len(each.strip()) > FEW]
         if new:
             others = (each for each in self._before if each not in new)
             self._keep((*others, *new))

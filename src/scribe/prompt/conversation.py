@@ -18,6 +18,8 @@ from scribe.words.replies import refusal_sentence, shown
 from scribe.words.typed import InvalidInput
 
 Value = TypeVar("Value")
+#: What has no more characters is typed again sooner than it is looked for.
+FEW = 3
 #: What is typed for a text without characters, since an empty line gives up.
 _EMPTY = ("''", '""')
 
@@ -71,6 +73,7 @@ class Conversation:
             try:
                 return _read("" if answer in _EMPTY else answer, read)
             except InvalidInput as fault:
+                self._bring_back(self.typed.pop())
                 # a short question doesn't say it
                 way_out = " An empty line gives up." if self.is_short else ""
                 self.console.say(sentence(str(fault)) + way_out)
@@ -86,6 +89,15 @@ class Conversation:
         if not self.lines.has_prompts:
             self.console.show(f"{short}:")
         return self.next_line(f"{short}: ")
+
+    def bring_back(self) -> None:
+        """Has the arrow keys bring back what was answered to questions for a line that is refused."""
+        for answer in self.typed[1:]:
+            self._bring_back(answer)
+
+    def _bring_back(self, answer: str) -> None:
+        if len(answer.strip()) > FEW:
+            self.lines.bring_back(answer)
 
     def remind(self) -> None:
         """Shows the mark in hand again if its paragraph is corrected, until it is resolved."""

@@ -67,6 +67,9 @@ class Lines(Protocol):
         asked now and then whether something is due, until the line is begun, and Due is raised.
         """
 
+    def bring_back(self, line: str) -> None:
+        """Has a line be the first that the arrow keys bring back, if there are any."""
+
 
 class PipedLines:
     """Lines that come from no terminal, or while nothing is shown at one, so without a prompt."""
@@ -90,6 +93,9 @@ class PipedLines:
                 f"The terminal may have cut this line after {CUT_BYTES:,} bytes. Nothing was changed."
             )
         return line.removesuffix(b"\n") if line else None
+
+    def bring_back(self, line: str) -> None:
+        """Does nothing: no keys are there."""
 
 
 class TypedLines(AbstractContextManager["TypedLines"]):

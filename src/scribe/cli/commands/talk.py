@@ -129,6 +129,7 @@ def _talk(conversation: Conversation, file: Path) -> Lost | None:
             console.show(_GIVEN_UP)
         except Stop as stop:
             console.say(*stop.lines)
+            conversation.bring_back()
         except Ended:
             if conversation.typed:
                 # somebody was asked for more of that line
@@ -141,6 +142,7 @@ def _talk(conversation: Conversation, file: Path) -> Lost | None:
             return lost
         except DeskError as failure:
             console.say(failure.sentence)
+            conversation.bring_back()
 
 
 def _answer(conversation: Conversation, file: Path, line: bytes) -> None:
