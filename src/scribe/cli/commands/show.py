@@ -15,8 +15,12 @@ EXAMPLE = "scribe show moon.braildesk 1-2"
 def add_words(parser: Parser) -> None:
     """Adds the words of `show`."""
     add_paragraphs(parser)
-    parser.add_argument("--print", action="store_true", help="only the print")
-    parser.add_argument("--braille", action="store_true", help="only the braille")
+    parser.add_argument(
+        "--print", action="store_true", help="the print without its braille"
+    )
+    parser.add_argument(
+        "--braille", action="store_true", help="the braille without its print"
+    )
     add_cells(parser)
     add_width(parser)
 
