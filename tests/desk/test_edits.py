@@ -141,6 +141,16 @@ def test_what_is_seen(name: str, moon: Path) -> None:
     assert scribe(command, moon, *rest, folder=moon.parent) == expected
 
 
+def test_a_number_that_no_request_has_is_too_large(moon: Path) -> None:
+    most = 2**53
+    ran = scribe("strike", moon, str(most + 1), folder=moon.parent)
+    assert (ran.status, ran.shown) == (1, "")
+    assert ran.said.startswith(f"Argument PARA: {most + 1} is too large a number.\n")
+    assert scribe("strike", moon, str(most), folder=moon.parent) == refused(
+        f"The book has no paragraph {most}: it has the paragraphs 1 to 3. Nothing was changed."
+    )
+
+
 def test_a_mark_that_is_not_there_is_refused_with_the_command_that_shows_them(
     moon: Path,
 ) -> None:

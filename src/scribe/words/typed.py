@@ -5,6 +5,7 @@ from collections.abc import Iterator
 from pathlib import Path
 from typing import TYPE_CHECKING, Self
 
+from braildesk.text import limits
 from braildesk.text.characters import control_refused
 
 if TYPE_CHECKING:
@@ -46,9 +47,9 @@ def number(word: str) -> int:
     if not (word.isascii() and word.isdigit()):
         raise InvalidInput(f"{word!r} is not a number")
     digits = word.lstrip("0")
-    if len(digits) > _DIGITS:
+    if len(digits) > _DIGITS or (found := int(digits or "0")) > limits.NUMBER:
         raise InvalidInput(f"{word} is too large a number")
-    return int(digits or "0")
+    return found
 
 
 def text(word: str) -> str:
