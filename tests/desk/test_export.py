@@ -49,6 +49,23 @@ def test_all_volumes_are_written_and_described(moon: Path) -> None:
     assert (moon.parent / "out" / "moon-1.brf").read_bytes() == MOON
 
 
+def test_volumes_are_said_to_be_new_where_what_is_shown_of_them_can_not_be_written(
+    moon: Path,
+) -> None:
+    def fill() -> None:
+        os.dup2(os.open("/dev/full", os.O_WRONLY), 1)
+
+    scribe("volume", moon, "2", "on", folder=moon.parent)
+    ran = scribe("export", moon, "out", *SIZES, folder=moon.parent, before=fill)
+    assert ran == Ran(
+        3,
+        "",
+        "Standard output could not be written: No space left on device.\n"
+        "Volumes 1 and 2 are new.\n",
+    )
+    assert files(moon.parent / "out") == ["moon-1.brf", "moon-2.brf"]
+
+
 def test_cells_are_counted_without_the_numbers_of_pages(moon: Path) -> None:
     with Session(moon) as session:
         for _ in range(12):

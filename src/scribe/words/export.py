@@ -19,7 +19,7 @@ from braildesk.desk.export import (
 from braildesk.desk.ranges import NoPage, PageRange
 from braildesk.workshop import MayNotLast, Swapped
 
-from scribe.words.console import Console
+from scribe.words.console import Console, OutputFailed
 from scribe.words.paragraph import counted
 from scribe.words.status import Interrupted, Status, may_not_last, stopped_by
 
@@ -33,12 +33,14 @@ def export_in_words(job: Job, console: Console) -> Status:
                 console.show(*_written(volume))
             else:
                 console.say(_left_out(volume))
+        console.say(*_ending(job, made))
     except KeyboardInterrupt as cause:
-        files = made.so_far()
-        rest = " Nothing was exported." if files is None else _files(files)
-        console.say(stopped_by(cause) + rest)
+        console.say(stopped_by(cause) + _so_far(made))
         raise Interrupted.after(cause) from cause
-    console.say(*_ending(job, made))
+    except OutputFailed as failed:
+        # the files are written all the same
+        failed.add_note(_so_far(made).lstrip())
+        raise
     return Status.DONE if made.is_whole else Status.REFUSED
 
 
@@ -146,6 +148,12 @@ def not_written(fault: NotWritten) -> str:
         f"Volume {fault.volume} could not be written: {fault.cause.strerror}. {fault.file}"
         f" {left}.{pages}{_files(fault.files)}"
     )
+
+
+def _so_far(made: Export) -> str:
+    """What an export has done that was ended, after a blank."""
+    files = made.so_far()
+    return " Nothing was exported." if files is None else _files(files)
 
 
 def _files(files: Files) -> str:
