@@ -128,6 +128,18 @@ def test_what_the_book_refuses_is_said_and_changes_nothing(moon: Path) -> None:
     assert history(moon) == ()
 
 
+@pytest.mark.parametrize("by", [(), ("--by", "anna")])
+def test_a_character_that_the_table_lacks_is_counted_in_all_of_the_new_words(
+    moon: Path, by: tuple[str, ...]
+) -> None:
+    assert change(moon, "1", "Two men", "Two měn", *by) == Ran(
+        2,
+        "",
+        "The table of paragraph 1 has no cells for “ě” (U+011B LATIN SMALL LETTER E WITH CARON),"
+        " character 6 of the new text: “Two měn”. Nothing was changed.\n",
+    )
+
+
 def test_words_are_compared_and_put_in_normal_form_c(empty_book: Path) -> None:
     table = "letter c 14\nletter a 1\nletter f 124\nletter e 15\nletter é 123456\n"
     with Session(empty_book) as session:

@@ -1,11 +1,13 @@
 """Words of a paragraph, and others that are put in their place."""
 
-from dataclasses import dataclass
+from dataclasses import dataclass, replace
 
-from braildesk import Mark, Session
+from braildesk import Mark, Refused, Session, Undefined
 from braildesk.desk import Problem
 from braildesk.desk.correction import replaced, smallest_correction
 from braildesk.desk.places import Words
+from braildesk.protocol.requests import Correct
+from braildesk.refusals import refused_as
 from braildesk.text.spans import Span
 
 
@@ -55,7 +57,12 @@ def change_place(
     if least is None:
         raise SameWords
     marks = session.marks_of(number)
-    session.correct(number, least.start, least.count, least.text, by=by, expect=version)
+    try:
+        session.correct(
+            number, least.start, least.count, least.text, by=by, expect=version
+        )
+    except Undefined as refused:
+        raise _of_all(refused, went, new) from None
     now = session.print_of(number)
     kept = len(before) - went.stop
     came = Span(went.start, max(went.start, len(now) - kept))
@@ -67,3 +74,12 @@ def newly_touched(before: tuple[Mark, ...], now: tuple[Mark, ...]) -> tuple[Mark
     """The marks of a paragraph that are touched now and weren't before."""
     fresh = {mark.id for mark in before if not mark.touched}
     return tuple(mark for mark in now if mark.touched and mark.id in fresh)
+
+
+def _of_all(refused: Undefined, went: Span, new: str) -> Refused:
+    """The refusal of a character by its place in all of the words that come."""
+    asked = refused.refusal.asked
+    if isinstance(asked, Correct):
+        count = went.stop - went.start
+        asked = replace(asked, start=went.start, count=count, text=new)
+    return refused_as(replace(refused.refusal, asked=asked))
