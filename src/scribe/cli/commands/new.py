@@ -11,8 +11,8 @@ from scribe.words.status import Status
 
 MORE = """\
 Its table is ueb if that is installed with scribe, else en, the one that the program
-supplies. A file that has a book already is left as it is, and if anything fails no
-file is made."""
+supplies. A file that has a book already is left as it is, unless nothing was put into
+that yet, and if anything fails no file is made."""
 
 
 def add_parser(subparsers: Subparsers) -> ArgumentParser:
