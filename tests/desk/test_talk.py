@@ -819,6 +819,17 @@ def test_a_talk_takes_lines_from_a_pipe_too(moon: Path) -> None:
     ]
 
 
+def test_lines_from_a_pipe_may_end_in_cr_lf(moon: Path) -> None:
+    given = "change 1\r\nfar\r\nnear\r\nversion\r\nquit\r\n"
+    ran = scribe("talk", moon, "--width", "60", folder=moon.parent, given=given)
+    assert (ran.status, ran.said) == (0, "")
+    assert ran.shown.splitlines()[-5:] == [
+        "Paragraph 1: The moon is [near] away.",
+        "Before: The moon is [far] away.",
+        *("The book is at version 8.",) * 3,
+    ]
+
+
 @pytest.mark.parametrize("given", ["change 1\nfar\n", "request table own 2\n# a\n"])
 def test_a_line_of_which_the_rest_never_comes_is_given_up(
     given: str, moon: Path

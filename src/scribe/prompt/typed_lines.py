@@ -92,7 +92,7 @@ class PipedLines:
             raise Stop(
                 f"The terminal may have cut this line after {CUT_BYTES:,} bytes. Nothing was changed."
             )
-        return line.removesuffix(b"\n") if line else None
+        return line.removesuffix(b"\n").removesuffix(b"\r") if line else None
 
     def bring_back(self, line: str) -> None:
         """Does nothing: no keys are there."""
