@@ -272,7 +272,7 @@ SAID: list[tuple[Request[Any], int, dict[str, int], str]] = [
         requests.Strike(2),
         11,
         {},
-        "Paragraph 2 is struck. Nothing was changed. Restore it first.",
+        "Paragraph 2 is struck already.",
     ),
     (
         requests.Restore(1),

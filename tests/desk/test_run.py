@@ -157,7 +157,7 @@ def test_it_stops_at_the_first_refusal_with_a_sentence(moon: Path) -> None:
     assert ran == Ran(
         2,
         "ok 8\nno 11\n",
-        "Line 2: Paragraph 1 is struck. Nothing was changed. Restore it first.\n",
+        "Line 2: Paragraph 1 is struck already.\n",
     )
     assert braildesk.check(moon) == 8
 

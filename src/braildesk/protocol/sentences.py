@@ -95,6 +95,9 @@ SENTENCES: Mapping[int, str] = MappingProxyType(
     }
 )
 
+#: The same of a paragraph that is to be struck (11).
+STRUCK_ALREADY = "Paragraph {paragraph} is struck already."
+
 #: What is full (15), by LIMIT.
 LIMITS = MappingProxyType(
     {

@@ -23,6 +23,7 @@ from braildesk.protocol.sentences import (
     LIMITS,
     PARTS,
     SENTENCES,
+    STRUCK_ALREADY,
     UNOPENED,
     said_of_room,
 )
@@ -50,6 +51,8 @@ def reason(refusal: Refusal) -> str:
 def _form(refusal: Refusal) -> str:
     unknown = f"braildesk refused this by a code that isn't known here: {refusal.code}."
     form = SENTENCES.get(refusal.code, unknown)
+    if refusal.code == Code.STRUCK and isinstance(refusal.asked, requests.Strike):
+        form = STRUCK_ALREADY
     return form.replace("{unopened}", UNOPENED[refusal.why])
 
 
