@@ -212,6 +212,15 @@ def is_of_others(path: str | PathLike[str]) -> bool:
         return False
 
 
+def has_tables_of_book(path: str | PathLike[str]) -> bool:
+    """Whether a file is seen to have the tables that a book has in any case."""
+    try:
+        with closing(reader(path, True)) as database:
+            return _OF_ALL_BOOKS <= _tables_in(database).keys()
+    except sqlite3.Error:
+        return False
+
+
 def _size_in(header: bytes) -> int:
     """The size that a database has by its own header."""
     if len(header) < 100:

@@ -3,7 +3,9 @@
 import errno
 import os
 import shutil
+import sqlite3
 import stat
+from contextlib import closing
 from pathlib import Path
 
 import pytest
@@ -262,6 +264,19 @@ def test_a_book_is_not_replaced_by_what_is_written_about_it(moon: Path) -> None:
         f"{moon.name} could not be written: a book is there, which was left as it is.\n",
     )
     assert moon.read_bytes() == before
+
+
+def test_a_database_of_something_else_is_not_replaced_and_not_called_a_book(
+    tmp_path: Path,
+) -> None:
+    letters = tmp_path / "letters"
+    with closing(sqlite3.connect(letters)) as database:
+        database.execute("CREATE TABLE letters (text)")
+    before = letters.read_bytes()
+    with pytest.raises(NoPlaceForAFile) as caught:
+        write_whole(letters, b"pages")
+    assert caught.value.strerror == "a database is there, which was left as it is"
+    assert letters.read_bytes() == before
 
 
 @pytest.mark.parametrize("kind", ["book", "device", "folder"])

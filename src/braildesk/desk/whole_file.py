@@ -11,7 +11,7 @@ from dataclasses import dataclass
 from pathlib import Path
 
 from braildesk.desk import Problem
-from braildesk.opening import LOGS, MAGIC
+from braildesk.opening import LOGS, MAGIC, has_tables_of_book
 from braildesk.protocol.value import Value
 from braildesk.workshop import (
     Swapped,
@@ -168,7 +168,10 @@ def _kept_permissions(name: str, folder: int, replaces: Replaces | None) -> Kept
     head = _head(name, folder) if is_file else b""
     if head.startswith(MAGIC):
         # which nobody means when pages or a table are written
-        raise NoPlaceForAFile(errno.EINVAL, "a book is there, which was left as it is")
+        is_book = has_tables_of_book(f"/proc/self/fd/{folder}/{name}")
+        what = "book" if is_book else "database"
+        why = f"a {what} is there, which was left as it is"
+        raise NoPlaceForAFile(errno.EINVAL, why)
     if head.startswith(LOGS):
         # it may have what its book lacks
         why = "the log of a book is there, which was left as it is"
