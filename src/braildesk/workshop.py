@@ -28,8 +28,8 @@ _NO_REPLACE = 1
 #: What a system says of that, and of bringing a folder to the disk, if it, or the file system, as one
 #: of a network may, doesn't have it.
 _NOT_KNOWN = (errno.EINVAL, errno.ENOSYS, errno.EOPNOTSUPP)
-#: What is said where a file system has no hard links.
-_NO_LINKS = (errno.EPERM, *_NOT_KNOWN)
+#: What is said where a file system has no hard links; rclone says the last of it.
+_NO_LINKS = (errno.EPERM, *_NOT_KNOWN, errno.EIO)
 _CHUNK = 1 << 20
 #: Where a file system has the list of who may do what with a file, the bytes before its entries, an
 #: entry (whom it is about, what that one may do, and a number), and what says that it is about the
@@ -500,17 +500,17 @@ def _rename(folder: int, name: str, target: Place) -> None:
 
 def _link(folder: int, name: str, target: Place) -> None:
     """Renames a file of an open folder as that does, by a link, where nothing else renames so."""
-    names = name, target.name
     try:
-        os.link(*names, src_dir_fd=folder, dst_dir_fd=target.folder)
-        os.unlink(name, dir_fd=folder)
-        with suppress(OSError), target.opened(os.O_RDONLY) as file:
-            # else a file system of FUSE may say for a second that the file has both names
-            os.fchmod(file.fileno(), stat.S_IMODE(os.fstat(file.fileno()).st_mode))
+        os.link(name, target.name, src_dir_fd=folder, dst_dir_fd=target.folder)
     except OSError as error:
         if error.errno not in _NO_LINKS:
             raise
         _rename_over_empty(folder, name, target)
+        return
+    os.unlink(name, dir_fd=folder)
+    with suppress(OSError), target.opened(os.O_RDONLY) as file:
+        # else a file system of FUSE may say for a second that the file has both names
+        os.fchmod(file.fileno(), stat.S_IMODE(os.fstat(file.fileno()).st_mode))
 
 
 def _rename_over_empty(folder: int, name: str, target: Place) -> None:

@@ -869,7 +869,9 @@ def test_where_a_file_has_another_number_by_its_new_name_it_is_known_by_what_it_
         braildesk.copy(book, to, overwrite=True)
 
 
-@pytest.mark.parametrize("number", [errno.EPERM, errno.ENOSYS, errno.EOPNOTSUPP])
+@pytest.mark.parametrize(
+    "number", [errno.EPERM, errno.ENOSYS, errno.EOPNOTSUPP, errno.EIO]
+)
 def test_where_a_file_system_has_no_links_either_a_copy_is_made_and_replaces_nothing(
     book: Path, tmp_path: Path, monkeypatch: pytest.MonkeyPatch, number: int
 ) -> None:
