@@ -492,7 +492,8 @@ def _empty_log(target: _Target, older: BinaryIO) -> None:
     """Puts what stands in the log of a held book into its file.
 
     Until the copy takes its place the book is whole in that file then, whenever this ends. Both are
-    written by their descriptors: a link that is put in place of one leads SQLite nowhere.
+    written by their descriptors: a link that is put in place of one leads SQLite nowhere. A log that
+    isn't the book's own stays, and so does the book.
     """
     place = target.place.beside("-wal")
     if not opening.has_page(place.size()):
@@ -502,16 +503,29 @@ def _empty_log(target: _Target, older: BinaryIO) -> None:
             whole = _filled(stack, older, log)
         except (OSError, Failed, sqlite3.OperationalError) as error:
             raise _not_written(target.named, _why_not_filled(error)) from error
-        if whole is not None:
-            # until the log is empty it stands for each page that is half written
-            copy_bytes(whole.fileno(), older.fileno())
-            os.fsync(older.fileno())
-            os.ftruncate(log.fileno(), 0)
-            os.fsync(log.fileno())
+        if whole is None:
+            raise _of_another(target.named)
+        # until the log is empty it stands for each page that is half written
+        copy_bytes(whole.fileno(), older.fileno())
+        os.fsync(older.fileno())
+        os.ftruncate(log.fileno(), 0)
+        os.fsync(log.fileno())
+
+
+def _of_another(named: str) -> NotCopied:
+    log = log_path(named)
+    return NotCopied(
+        f"What stands in “{log}” isn't part of “{named}” as it is, and may be work of another book that"
+        " stood there. Nothing was changed. Keep both files: take another path for the copy, or move"
+        f" “{log}” away first."
+    )
 
 
 def _filled(stack: ExitStack, older: BinaryIO, log: BinaryIO) -> BinaryIO | None:
     """A copy of a file with what stands in its log; none if a program would find no book there, or another."""
+    if not os.fstat(older.fileno()).st_size:
+        # SQLite would remove the log of that
+        return None
     made = stack.enter_context(_temporary())
     whole = stack.enter_context(create(made))
     copy_bytes(older.fileno(), whole.fileno())

@@ -1,6 +1,5 @@
 """`scribe copy`: what is at the path of a copy stays, unless it is a book and the words say so."""
 
-import errno
 import os
 import shutil
 import sqlite3
@@ -82,9 +81,7 @@ def test_no_database_is_replaced_whose_tables_stand_in_its_log(moon: Path) -> No
     assert ran.said.startswith("“other” is no book, and was left as it is.")
 
 
-def test_a_book_is_as_it_was_beside_a_log_of_another_where_no_copy_takes_its_place(
-    moon: Path, monkeypatch: pytest.MonkeyPatch
-) -> None:
+def test_no_book_beside_a_log_of_another_is_replaced(moon: Path) -> None:
     other, third = moon.with_name("other"), moon.with_name("third")
     braildesk.copy(moon, other)
     braildesk.new_book(third)
@@ -93,15 +90,19 @@ def test_a_book_is_as_it_was_beside_a_log_of_another_where_no_copy_takes_its_pla
         for number in range(200):
             session.add_paragraph("end", "en", f"star {number}")
         shutil.copyfile(f"{third}-wal", f"{other}-wal")
-    before = other.read_bytes(), Path(f"{other}-wal").read_bytes()
-
-    def fail(*_: object) -> None:
-        raise PermissionError(errno.EPERM, "Operation not permitted")
-
-    monkeypatch.setattr("braildesk.making.put_over", fail)
-    with pytest.raises(braildesk.DeskError, match="Operation not permitted"):
-        braildesk.copy(third, other, overwrite=True)
-    assert (other.read_bytes(), Path(f"{other}-wal").read_bytes()) == before
+    log = Path(f"{other}-wal")
+    before = other.read_bytes(), log.read_bytes()
+    ran = scribe("copy", "third", "other", "--overwrite", folder=moon.parent)
+    assert ran == Ran(
+        2,
+        "",
+        f"What stands in “{log}” isn't part of “other” as it is, and may be work of another book that"
+        " stood there. Nothing was changed. Keep both files: take another path for the copy, or move"
+        f" “{log}” away first.\n",
+    )
+    assert (other.read_bytes(), log.read_bytes()) == before
+    log.unlink()
+    assert braildesk.copy(third, other, overwrite=True) == 201
 
 
 def test_what_is_put_in_place_of_a_book_meanwhile_is_not_replaced(
