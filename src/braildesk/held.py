@@ -13,6 +13,7 @@ from braildesk.opening import (
     has_journal,
     has_page,
     has_work,
+    is_log_used,
     is_used,
     take_alone,
     take_shared,
@@ -50,6 +51,8 @@ def held(book: BookFile, flags: int = os.O_RDONLY) -> Iterator[BinaryIO]:
             raise cannot_open(book, no_log)
         if has_journal(book.path):
             raise cannot_open(book, Why.JOURNAL)
+        if is_log_used(log_path(book.path)):
+            raise cannot_open(book, Why.LOG_IN_USE)
         yield file
 
 

@@ -424,6 +424,8 @@ def _judge_log(named: str, kind: type[NotMade], what: str) -> None:
         raise cannot_open(BookFile(named), Why.NO_LOG)
     if has_journal(named):
         raise cannot_open(BookFile(named), Why.JOURNAL)
+    if opening.is_log_used(log):
+        raise cannot_open(BookFile(named), Why.LOG_IN_USE)
     if has_work(log):
         raise kind(
             f"“{log}” is there, which belongs to another book that stood at “{named}” and may"
@@ -499,6 +501,8 @@ def _empty_log(target: _Target, older: BinaryIO) -> None:
     if not opening.has_page(place.size()):
         return
     with place.opened(os.O_RDWR) as log, ExitStack() as stack:
+        if not opening.take_alone(log):
+            raise cannot_open(BookFile(target.named), Why.LOG_IN_USE)
         try:
             whole = _filled(stack, older, log)
         except (OSError, Failed, sqlite3.OperationalError) as error:

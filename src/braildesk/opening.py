@@ -8,7 +8,7 @@ import stat
 import struct
 import time
 from collections.abc import Callable, Iterable, Iterator, Mapping
-from contextlib import closing
+from contextlib import closing, suppress
 from itertools import repeat
 from os import PathLike, fsencode, fspath
 from types import MappingProxyType
@@ -164,6 +164,8 @@ def _why_regular(asked: AskedOfFile) -> Why:
             return Why.LINKED
         if is_used(file):
             return Why.IN_USE
+        if is_log_used(log_path(asked.path)):
+            return Why.IN_USE if is_used(file) else Why.LOG_IN_USE
         found = why_contents(file)
     if no_log := why_no_log(log_path(asked.path)):
         return no_log
@@ -340,6 +342,8 @@ _FIRST_LOCKED = 0x40000000
 _COUNT_LOCKED = 512
 #: The kind of a lock, from where its bytes are counted, which they are, and a process.
 _LOCK = struct.Struct("hhqqi0q")
+#: How long a program that comes to its end has the log when it has given up the file, in seconds.
+_LEAVING = 0.1
 
 
 def take_shared(file: BinaryIO) -> bool:
@@ -374,6 +378,21 @@ def is_used(file: BinaryIO | int) -> bool:
     """Whether a program uses the file, or reads it with a shared lock."""
     found: bytes = fcntl.fcntl(file, fcntl.F_OFD_GETLK, _lock(fcntl.F_WRLCK))
     return bool(_LOCK.unpack(found)[0] != fcntl.F_UNLCK)
+
+
+def is_log_used(log: str) -> bool:
+    """Whether a program has a log open, while the file beside it isn't used, if that can be seen.
+
+    It has another file then, beside which the log was when it opened both.
+    """
+    flags = os.O_RDONLY | os.O_NOFOLLOW | os.O_NONBLOCK | os.O_CLOEXEC
+    until = time.monotonic() + _LEAVING
+    with suppress(OSError), open(os.open(log, flags), "rb") as file:
+        while is_used(file):
+            if time.monotonic() > until:
+                return True
+            time.sleep(_LEAVING / 10)
+    return False
 
 
 def _take(file: BinaryIO, kind: int) -> bool:
@@ -565,7 +584,7 @@ def waited(attempt: Callable[[], Result], seconds: float) -> Result:
             return attempt()
         except CannotOpen as refusal:
             left = until - time.monotonic()
-            is_used = refusal.why is Why.IN_USE and left > 0
+            is_used = refusal.why in (Why.IN_USE, Why.LOG_IN_USE) and left > 0
             # the other program may have ended before it was looked for
             is_unseen = refusal.why is Why.UNKNOWN
             unseen += is_unseen

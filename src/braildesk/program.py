@@ -59,6 +59,7 @@ _NOT_ASKED = (
     Why.LOG_OPEN_TO_READ,
     Why.LOG_STAYS,
     Why.IN_USE,
+    Why.LOG_IN_USE,
     Why.NO_LOG,
     Why.NO_LOCKS,
 )

@@ -29,6 +29,7 @@ _UNTOLD = frozenset(
         Why.NO_ROOM,
         Why.OVER_QUOTA,
         Why.IN_USE,
+        Why.LOG_IN_USE,
         Why.NO_LOCKS,
         Why.UNKNOWN,
     }

@@ -2075,6 +2075,63 @@ def test_an_older_copy_beside_the_log_of_a_newer_book_is_said_to_be_that(
     assert braildesk.check(book) == 1
 
 
+@pytest.mark.parametrize("has_work", [False, True])
+def test_a_book_beside_the_log_of_one_that_is_open_is_said_to_be_that(
+    book: Path, tmp_path: Path, has_work: bool
+) -> None:
+    newer, third, copied = (
+        tmp_path / name for name in ("newer", "third", "copied.braildesk")
+    )
+    for each in (newer, third):
+        braildesk.new_book(each)
+    log = Path(f"{book}-wal")
+    attempts: list[Callable[[], object]] = [
+        lambda: Session(book),
+        lambda: braildesk.check(book),
+        lambda: braildesk.export(book, 1),
+        lambda: braildesk.read_tables(book),
+        lambda: braildesk.new_book(book),
+        lambda: braildesk.copy(book, copied),
+        lambda: braildesk.copy(third, book, overwrite=True),
+    ]
+    with suppress(braildesk.Displaced), Session(book) as session:
+        if has_work:
+            session.add_paragraph("end", "en", "kept")
+        newer.replace(book)
+        before = log.read_bytes()
+        for attempt in attempts:
+            with pytest.raises(CannotOpen) as caught:
+                attempt()
+            assert caught.value.why is Why.LOG_IN_USE
+        # as where it was put there once the file was judged
+        assert opening.why(BookFile(str(book))) is Why.LOG_IN_USE
+        assert caught.value.sentence == (
+            f"Another program has “{log}” open, but not “{book}”. So that log belongs to another book,"
+            f" perhaps to one that stood at “{book}” before. Nothing was changed. End that program"
+            " first."
+        )
+        assert (log.read_bytes(), copied.exists()) == (before, False)
+    assert braildesk.check(book) == 0
+
+
+def test_nothing_is_made_beside_the_log_of_a_book_that_was_moved_while_it_is_open(
+    book: Path, tmp_path: Path
+) -> None:
+    other = tmp_path / "other"
+    braildesk.new_book(other)
+    attempts: list[Callable[[], object]] = [
+        lambda: braildesk.new_book(book),
+        lambda: braildesk.copy(other, book),
+    ]
+    with Session(book):
+        book.rename(tmp_path / "moved")
+        for attempt in attempts:
+            with pytest.raises(CannotOpen) as caught:
+                attempt()
+            assert caught.value.why is Why.LOG_IN_USE
+        assert not book.exists()
+
+
 @pytest.mark.parametrize(
     "done_in_copy",
     [

@@ -12,7 +12,7 @@ from typing import Any, BinaryIO
 import pytest
 
 import braildesk
-from braildesk import Session
+from braildesk import CannotOpen, Displaced, Session, Why
 from braildesk.held import held
 from braildesk.snapshot import snapshot
 
@@ -103,6 +103,44 @@ def test_no_book_beside_a_log_of_another_is_replaced(moon: Path) -> None:
     assert (other.read_bytes(), log.read_bytes()) == before
     log.unlink()
     assert braildesk.copy(third, other, overwrite=True) == 201
+
+
+@pytest.mark.parametrize("there", ["an earlier copy", "another book", "an empty file"])
+def test_no_copy_takes_the_log_of_a_session_in_whose_place_another_file_was_put(
+    moon: Path, there: str
+) -> None:
+    other, log = moon.with_name("other"), moon.with_name("other-wal")
+    braildesk.copy(moon, other)
+    with pytest.raises(Displaced) as caught, Session(other) as session:
+        session.add_paragraph("end", "en", "Typed meanwhile.")
+        session.add_mark(4, 0, 5, "put meanwhile")
+        other.unlink()
+        if there == "an earlier copy":
+            shutil.copyfile(moon, other)
+        elif there == "another book":
+            braildesk.new_book(moon.with_name("new"))
+            moon.with_name("new").rename(other)
+        else:
+            other.touch()
+        before = other.read_bytes(), log.read_bytes()
+        ran = copy(moon, "--overwrite")
+        assert ran == Ran(
+            2,
+            "",
+            f"Another program has “{log}” open, but not “other”. So that log belongs to another book,"
+            " perhaps to one that stood at “other” before. Nothing was changed. End that program"
+            " first.\n",
+        )
+        with pytest.raises(CannotOpen) as refused:
+            braildesk.copy(moon, other, overwrite=True)
+        assert refused.value.why is Why.LOG_IN_USE
+        assert (other.read_bytes(), log.read_bytes()) == before
+    assert caught.value.saved is not None
+    with Session(caught.value.saved) as session:
+        assert session.print_of(4) == "Typed meanwhile."
+        assert [mark.note for mark in session.marks_of(4)] == ["put meanwhile"]
+    # the log is nobody's by now, and empty
+    assert copy(moon, "--overwrite").status == 0
 
 
 def test_what_is_put_in_place_of_a_book_meanwhile_is_not_replaced(

@@ -31,6 +31,7 @@ class Why(StrEnum):
     IN_USE = "in use"
     LINKED = "linked"
     OTHER_LOG = "log of another"
+    LOG_IN_USE = "log in use"
     NO_LOG = "no log"
     LONG_NAME = "long name"
     JOURNAL = "journal"
@@ -191,6 +192,8 @@ UNOPENED = MappingProxyType(
         " and with it would be damaged or lose what it has. It may be that another file was put in"
         " the place of the book. {nothing} Keep both files; to go on with {path} as it"
         " is, move {log} away.",
+        Why.LOG_IN_USE: "Another program has {log} open, but not {path}. So that log belongs to another"
+        " book, perhaps to one that stood at {path} before. {nothing} End that program first.",
         Why.NO_LOG: "What stands at {log} is no log of its own, but a link, a folder, a pipe, a book"
         " or another file, and the newest work of {path} would be looked for there. {nothing}"
         " Move it away, or ask an administrator to do so where its folder doesn't let you.",
