@@ -17,7 +17,14 @@ from braildesk import opening
 from braildesk.fenced import started
 from braildesk.held import copy_held, fit_log, held
 from braildesk.named_files import read_file
-from braildesk.opening import changes_in, fault_in, goes_on, has_work, waited
+from braildesk.opening import (
+    changes_in,
+    fault_in,
+    goes_on,
+    has_work,
+    is_of_others,
+    waited,
+)
 from braildesk.protocol.asked import (
     AskedOfFile,
     BookFile,
@@ -33,8 +40,11 @@ from braildesk.protocol.codes import Code
 from braildesk.protocol.sentences import ENDED_BY, Why, said_of_room
 from braildesk.refusals import (
     CannotOpen,
+    Damaged,
     DeskError,
     Failed,
+    NewerFormat,
+    NotABook,
     Refused,
     cannot_open,
     refused,
@@ -63,6 +73,8 @@ _NOT_ASKED = (
     Why.NO_LOG,
     Why.NO_LOCKS,
 )
+#: What the program says of a file that holds no book which it reads.
+_OF_CONTENTS = (NotABook, Damaged, NewerFormat)
 _CODE = re.compile(r"(?:braildesk: )?no ([0-9]+(?: -?[0-9]+)*)")
 #: What it answers of a whole book.
 _CHECKED = re.compile(rb"ok ([0-9]+)\n")
@@ -256,12 +268,12 @@ def judge(asked: AskedOfFile, program: str) -> None:
         return
     _judge_file(asked)
     try:
-        fault = _fault_of(asked.path, program)
+        fault = _fault_of(asked, program)
         if fault is None:
             fit_log(BookFile(asked.path))
     except CannotOpen as refusal:
         fault = refusal.why if refusal.why in _NOT_ASKED else None
-    except (OSError, ValueError, Refused):
+    except (OSError, ValueError):
         return
     if fault is not None:
         raise cannot_open(asked, fault)
@@ -287,43 +299,61 @@ def _judge_file(asked: AskedOfFile) -> None:
         raise cannot_open(asked, Why.TOO_LARGE_FOR_BOOK)
 
 
-def _fault_of(path: str, program: str) -> Why | None:
+def _fault_of(asked: AskedOfFile, program: str) -> Why | None:
     """What is seen of the files of a book that keeps it from being opened."""
-    log = log_path(path)
-    with held(BookFile(path)):
-        fault = fault_in(real_path(path), is_alone=True)
-    if fault in _NOT_A_BOOK or not has_work(log):
-        return fault
-    return _fault_with_log(path, log, program)
+    path, log = real_path(asked.path), log_path(asked.path)
+    with held(BookFile(asked.path)):
+        fault = fault_in(path, is_alone=True)
+        is_foreign = fault is None and is_of_others(path)
+    if fault not in _NOT_A_BOOK and has_work(log):
+        return _fault_with_log(asked, log, program)
+    if is_foreign:
+        # beside that the program would leave a log
+        raise refused(Code.NOT_A_BOOK, asked)
+    return fault
 
 
-def _fault_with_log(path: str, log: str, program: str) -> Why | None:
-    """The same if a log has work, which may be that of another book: copies of both are tried."""
+def _fault_with_log(asked: AskedOfFile, log: str, program: str) -> Why | None:
+    """The same if a log has work, which may be that of another book: copies of both are tried.
+
+    What isn't a book with it is refused by that: the program would put the log into the file first.
+    """
     with made_for_a_while() as both, made_for_a_while() as alone:
-        with held(BookFile(path)) as file:
+        with held(BookFile(asked.path)) as file:
             copy_held(file, log, both)
             copy_held(file, "", alone)
         changes = changes_in(f"{both}-wal")
         fault = fault_in(both, is_alone=False)
         if fault in _NOT_A_BOOK:
             return fault
-        is_whole = fault is None and _is_book(both, program)
-        is_of_another = _is_book(alone, program) and not (
+        refusal = None if fault else _refusal_of(both, program, asked)
+        is_whole = fault is None and refusal is None
+        is_of_another = _refusal_of(alone, program, asked) is None and not (
             is_whole and goes_on(alone, both, changes)
         )
-    return Why.OTHER_LOG if is_of_another else fault
+        is_foreign = fault is None and is_of_others(both)
+    if is_of_another:
+        return Why.OTHER_LOG
+    if is_foreign:
+        raise refused(Code.NOT_A_BOOK, asked)
+    if isinstance(refusal, _OF_CONTENTS):
+        raise refusal
+    return fault
 
 
-def _is_book(path: Path, program: str) -> bool:
-    """Whether the program finds a book in a file."""
+def _refusal_of(path: Path, program: str, asked: AskedOfFile) -> DeskError | None:
+    """Why the program finds no book in a copy of what is asked of, if it doesn't."""
     words = [program, "check", "--", str(path)]
     # nothing was seen of its files yet, and the program may make a log
-    asked = NewBook(str(path))
-    with started(asked, lambda: Popen(words, stdout=DEVNULL, stderr=DEVNULL)) as check:
+    given = NewBook(str(path))
+    with started(given, lambda: _piped(words, DEVNULL, ())) as check:
         try:
-            return check.wait() == 0
+            _answered_by(check, asked)
+        except DeskError as refusal:
+            return refusal
         finally:
             check.kill()
+    return None
 
 
 def unopened(status: int, errors: str, asked: AskedOfFile) -> DeskError:

@@ -2132,6 +2132,54 @@ def test_nothing_is_made_beside_the_log_of_a_book_that_was_moved_while_it_is_ope
         assert not book.exists()
 
 
+def test_an_empty_file_leaves_the_log_of_a_book_that_stood_there_as_it_is(
+    book: Path, tmp_path: Path
+) -> None:
+    killed_after(book, "kept")
+    book.rename(moved := tmp_path / "moved")
+    book.touch()
+    for attempt in (Session, braildesk.check):
+        with pytest.raises(NotABook):
+            attempt(book)
+    with pytest.raises(NotCopied):
+        braildesk.copy(moved, book, overwrite=True)
+    moved.replace(book)
+    with Session(book) as session:
+        assert session.print_of(1) == "kept"
+
+
+@pytest.mark.parametrize("encoding", ["UTF-8", "UTF-16"])
+@pytest.mark.parametrize("has_log", [True, False])
+def test_nothing_is_written_into_a_database_of_something_else(
+    tmp_path: Path, has_log: bool, encoding: str
+) -> None:
+    letters, folder = tmp_path / "letters", tmp_path / "folder"
+    folder.mkdir()
+    other = folder / "other"
+    with closing(sqlite3.connect(letters)) as database:
+        database.execute(f"PRAGMA encoding = '{encoding}'")
+        if has_log:
+            database.execute("PRAGMA journal_mode = WAL")
+        database.execute("CREATE TABLE letters (text)")
+        for each in tmp_path.glob("letters*"):
+            if not each.name.endswith("-shm"):
+                shutil.copyfile(each, folder / each.name.replace("letters", "other"))
+    before = {each.name: each.read_bytes() for each in folder.iterdir()}
+    assert before.keys() == ({"other", "other-wal"} if has_log else {"other"})
+    attempts: list[Callable[[], object]] = [
+        lambda: Session(other),
+        lambda: braildesk.check(other),
+        lambda: braildesk.export(other, 1),
+    ]
+    for attempt in attempts:
+        with pytest.raises(NotABook) as caught:
+            attempt()
+        assert caught.value.sentence == (
+            f"“{other}” is no book. Nothing was changed. Check that the path is right."
+        )
+    assert {each.name: each.read_bytes() for each in folder.iterdir()} == before
+
+
 @pytest.mark.parametrize(
     "done_in_copy",
     [
