@@ -3,6 +3,7 @@
 from pathlib import Path
 
 import pytest
+from strangers import NEEDS_ROOT, as_stranger, lead_to
 from tool import Ran, scribe
 
 from braildesk import Session
@@ -61,6 +62,27 @@ def test_headings_are_listed_alone(stars: Path) -> None:
     ran = scribe("talk", stars, folder=stars.parent, given=given)
     assert "2, heading, begins a volume, 9 characters: The Tides\n" in ran.shown
     assert ran.said == "There are no headings there.\n"
+
+
+@NEEDS_ROOT
+@pytest.mark.parametrize("way", ["the book", "its folder"])
+def test_a_link_of_another_user_that_leads_to_the_book_is_named(
+    moon: Path, tmp_path: Path, way: str
+) -> None:
+    shared, own = tmp_path / "shared", tmp_path / "own"
+    shared.mkdir()
+    shared.chmod(0o777)
+    lead_to(shared)
+    to = moon if way == "the book" else moon.parent
+    link = shared / "link"
+    assert as_stranger(lambda: link.symlink_to(to)) == ""
+    own.symlink_to(to)
+    names = () if way == "the book" else (moon.name,)
+    ran = listed(link.joinpath(*names))
+    assert ran.said.splitlines()[0] == (
+        f"“{link}” is a link of another user, and leads to “{to}”."
+    )
+    assert listed(own.joinpath(*names)) == Ran(0, ran.shown, "")
 
 
 @pytest.mark.parametrize("width", [10, 20, 32, 40, 55])

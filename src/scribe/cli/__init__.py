@@ -56,6 +56,8 @@ def run_words(words: Sequence[str], console: Console) -> Status:
             parser.refuse(unknown_command(words[0], list(COMMANDS)))
         arguments = parser.parse_args(words)
         console = as_asked(console, arguments)
+        if led := _of_link(arguments):
+            console.say(led)
         with in_sentences(lambda: may_change(arguments)):
             status: Status = arguments.run(arguments, console)
             console.flush()
@@ -80,6 +82,27 @@ def run_words(words: Sequence[str], console: Console) -> Status:
         status, sentences = said
         console.say(*sentences, *lost_besides(failure))
         return status
+
+
+def _of_link(arguments: Namespace) -> str:
+    """What is said of a link of another user by which the words name a book; nothing if none does."""
+    book = getattr(arguments, "file", None)
+    if book is None or not hasattr(arguments, "wait"):
+        # no book is opened by these words
+        return ""
+    # imported here, since what only shows help needs none of it
+    from braildesk.protocol.asked import real_path
+    from braildesk.workshop import OthersLink, own_path
+
+    try:
+        own_path(str(book))
+    except OthersLink as found:
+        to = real_path(found.link)
+        return f"“{found.link}” is a link of another user, and leads to “{to}”."
+    except (OSError, ValueError):
+        # it is said where the book is opened
+        pass
+    return ""
 
 
 def main() -> int:
