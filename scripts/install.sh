@@ -47,7 +47,8 @@ case $action in
         make_files
         remove_modules # with those of an older version
         files | while read -r mode file place; do install -D -m "$mode" "$file" "$below/$place"; done
-        # by their contents, so that they may be moved and packed as any other file
+        # by their contents, so that they may be moved and packed as any other file, and for all who run scribe
+        umask 022
         [ -n "${MODULES-}" ] || "$python" -m compileall -q --invalidation-mode checked-hash ${DESTDIR:+-s "$DESTDIR"} "$below/$modules"
         ;;
     uninstall)

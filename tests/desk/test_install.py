@@ -16,7 +16,7 @@ from tool import ROOT, Ran
 UEB = ROOT / "src" / "braildesk" / "tables" / "ueb.utb"
 
 
-def make(target: str, program: str, prefix: Path, stage: Path) -> None:
+def make(target: str, program: str, prefix: Path, stage: Path, umask: int = -1) -> None:
     """Runs make with the program as it is, for a folder that is filled below another one."""
     words = [f"PREFIX={prefix}", f"DESTDIR={stage}", f"PROGRAM={program}"]
     environment = {key: it for key, it in os.environ.items() if key[:4] != "MAKE"}
@@ -24,6 +24,7 @@ def make(target: str, program: str, prefix: Path, stage: Path) -> None:
         ["make", "--silent", f"--old-file={program}", target, *words],
         cwd=ROOT,
         env=environment,
+        umask=umask,
         check=True,
     )
 
@@ -40,7 +41,7 @@ def prefix(program: str, tmp_path_factory: pytest.TempPathFactory) -> Path:
     """A folder with what is installed: filled elsewhere, and moved to its place as packages are."""
     folder = tmp_path_factory.mktemp("installed")
     prefix, stage = folder / "usr", folder / "stage"
-    make("install", program, prefix, stage)
+    make("install", program, prefix, stage, umask=0o077)
     assert not prefix.exists()
     shutil.move(f"{stage}{prefix}", prefix)
     return prefix
@@ -79,6 +80,14 @@ def test_each_module_is_compiled(prefix: Path) -> None:
         re.sub(r"/__pycache__/(\w+)\.cpython-\d+\.pyc$", r"/\1.py", path)
         for path in compiled
     ) == sorted(of_packages)
+
+
+def test_others_may_read_all_that_a_person_installs_for_whom_new_files_are_private(
+    prefix: Path,
+) -> None:
+    for path in prefix.rglob("*"):
+        wanted = 0o555 if path.is_dir() else 0o444
+        assert path.stat().st_mode & wanted == wanted, path
 
 
 def test_the_table_ueb_is_found_by_its_name(prefix: Path, tmp_path: Path) -> None:
