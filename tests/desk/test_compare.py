@@ -1,7 +1,9 @@
 """`scribe compare`: the print of a book beside a manuscript, word by word."""
 
 import shutil
+from itertools import pairwise
 from pathlib import Path
+from random import Random
 
 import pytest
 from hypothesis import given
@@ -182,6 +184,95 @@ def test_words_that_no_paragraph_of_a_document_has_are_counted() -> None:
         " shows them."
     ]
     assert not [*left_out(Manuscript(ManuscriptKind.DOCX, ()))]
+
+
+@pytest.mark.parametrize(
+    "mine, others, wanted",
+    [
+        (
+            ["He said yes", "yes it is"],
+            ["He said", "yes it was"],
+            [OtherWords(1, 8, "yes", ""), OtherWords(2, 7, "is", "was")],
+        ),
+        (
+            ["He said", "yes it was"],
+            ["He said yes", "yes it is"],
+            [LackingWords(1, "said", "yes"), OtherWords(2, 7, "was", "is")],
+        ),
+        (
+            ["he went to the", "the old house"],
+            ["he went to", "the new house"],
+            [OtherWords(1, 11, "the", ""), OtherWords(2, 4, "old", "new")],
+        ),
+        (
+            ["up and in", "in by the sea"],
+            ["up and out", "by the sea"],
+            [OtherWords(1, 7, "in", "out"), OtherWords(2, 0, "in", "")],
+        ),
+        (
+            ["he was in", "by the sea"],
+            ["she was in", "in by the sea"],
+            [OtherWords(1, 0, "he", "she"), LackingWords(2, "", "in")],
+        ),
+    ],
+)
+def test_a_word_that_the_paragraph_beside_has_too_is_that_of_its_own_paragraph(
+    mine: list[str], others: list[str], wanted: list[Difference]
+) -> None:
+    assert [*differences([*enumerate(mine, 1)], others)] == wanted
+
+
+@pytest.mark.parametrize(
+    "mine, others, wanted",
+    [
+        (["up in", "up", "in"], ["up", "in", "up in"], []),
+        (
+            ["The sea rose", "by night.", "* * *", "It fell by", "the day."],
+            ["The sea", "rose by night.", "* * *", "It fell", "by the", "day."],
+            [],
+        ),
+        (
+            ["The sea rose", "and fell by night.", "* * *", "It was", "calm by day."],
+            [
+                "The sea",
+                "rose",
+                "* * *",
+                "and fell",
+                "by night.",
+                "* * *",
+                "It was calm",
+            ],
+            [LackingParagraph(1, "* * *"), OtherWords(5, 5, "by day.", "")],
+        ),
+    ],
+)
+def test_words_are_the_same_wherever_a_short_paragraph_stands_again(
+    mine: list[str], others: list[str], wanted: list[Difference]
+) -> None:
+    assert [*differences([*enumerate(mine, 1)], others)] == wanted
+
+
+def parted(words: list[str], most: int, chance: Random) -> list[str]:
+    """Paragraphs of some words, each of so many at most."""
+    ends = [0]
+    while ends[-1] < len(words):
+        ends.append(ends[-1] + chance.randint(1, most))
+    return [" ".join(words[start:stop]) for start, stop in pairwise(ends)]
+
+
+def test_a_long_text_that_is_parted_otherwise_differs_by_its_other_words_alone() -> (
+    None
+):
+    chance = Random(7)
+    words = [f"word{int(chance.paretovariate(0.6)) % 900}" for _ in range(20_000)]
+    others = [*words]
+    for place in range(150, 20_000, 300):
+        others[place] = "other"
+    book = enumerate(parted(words, 30, chance), 1)
+    found = list(differences([*book], parted(others, 30, chance)))
+    gone, come = sides(found)
+    assert come == ["other"] * 67
+    assert len(gone) == 67 and len(found) < 75
 
 
 WORD = st.sampled_from(["a", "b", "c", "d"])

@@ -261,6 +261,11 @@ def test_paragraphs_that_are_the_same_at_both_ends_are_compared_in_one_walk() ->
     book = enumerate(["is a", *alike[:2_000], "is a"])
     found = differences([*book], ["is b", *alike[:2_000], "is b"])
     assert [*found] == [OtherWords(n, 3, "a", "b") for n in (0, 2_001)]
+    # where no paragraph stands once, and no words do
+    kinds = ["The moon is far.", "The Tides", "Twice a day the sea comes up."]
+    its = [kinds[n % 3] for n in range(50_000)]
+    others = [kinds[(n + (n % 7 > 0)) % 3] for n in range(50_000)]
+    assert len([*differences([*enumerate(its)], others)]) > 1_000
     assert time.process_time() - started < SECONDS
 
 
