@@ -1667,6 +1667,11 @@ def test_words_of_doc_that_libreoffice_leaves_out_are_missing(
             r"{\rtf1 {\upr{m?n}{\*\ud{moon}}} \\upr{a}}",
             r"{\rtf1 {\upr{\*\uprx m?n}{\*\ud{moon}}} \\upr{a}}",
         ),
+        # and what parts notes from the text
+        (
+            r"{\rtf1 {\ftnsep sea}{\*\ftnsep\pard sea}{\ftnsepc sea} \\{ftnsep}}",
+            r"{\rtf1 {\*\ftnsepx sea}{\*\ftnsepx\pard sea}{\ftnsepc sea} \\{ftnsep}}",
+        ),
     ],
 )
 def test_what_stands_in_rtf_after_the_end_of_its_group_is_read(

@@ -33,7 +33,11 @@ from braildesk.desk.documents.kinds import (
     part_of,
     unpacked,
 )
-from braildesk.desk.documents.rtf_groups import as_one_group, without_older
+from braildesk.desk.documents.rtf_groups import (
+    as_one_group,
+    without_older,
+    without_parting,
+)
 from braildesk.desk.manuscript import UnreadableText
 
 #: How many seconds a program is waited for that has less than a hundredth of them of a processor: it waits for
@@ -139,7 +143,8 @@ def as_docx(data: bytes, kind: ManuscriptKind, name: str) -> bytes:
 def _as_shown(data: bytes, kind: ManuscriptKind) -> bytes:
     """A document all of which LibreOffice reads, with the results of its fields."""
     if kind is ManuscriptKind.RTF:
-        return rtf_fields.as_shown(without_older(as_one_group(data)))
+        its = without_parting(without_older(as_one_group(data)))
+        return rtf_fields.as_shown(its)
     return doc_text.as_shown(data) if kind is ManuscriptKind.DOC else data
 
 

@@ -1,6 +1,7 @@
 """Groups of RTF, of which LibreOffice reads nothing after the end of the outermost one.
 
-Of text that is written twice, for older programs too, it types both.
+Of text that is written twice, for older programs too, it types both, and what parts the notes of a page from its
+text it types too.
 """
 
 import re
@@ -12,11 +13,19 @@ _NOTHING = b"\0\x1a \t\r\n}"
 #: Where what older programs read begins, of which those that know nothing of its name read nothing.
 _OLDER = re.compile(rb"(?<!\\)((?:\\\\)*+)\\upr(?![a-zA-Z])\s*\{")
 _UNKNOWN = rb"\1\\upr{\\*\\uprx "
+#: Where that begins which parts the notes of a page from its text, and what no program knows in its place.
+_PARTING = re.compile(rb"(?<!\\)((?:\\\\)*+\{\s*)(?:\\\*\s*)?\\ftnsep(?![a-zA-Z])")
+_UNKNOWN_PARTING = rb"\1\\*\\ftnsepx"
 
 
 def without_older(data: bytes) -> bytes:
     """A text in RTF of whose text that is written twice only that for newer programs is read."""
     return _OLDER.sub(_UNKNOWN, data)
+
+
+def without_parting(data: bytes) -> bytes:
+    """A text in RTF of which nothing is read that parts the notes of a page from its text."""
+    return _PARTING.sub(_UNKNOWN_PARTING, data)
 
 
 def as_one_group(data: bytes) -> bytes:
