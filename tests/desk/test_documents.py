@@ -2238,3 +2238,20 @@ def test_what_a_page_says_that_it_does_not_show_is_typed_and_noted() -> None:
     found = read_document(page.encode(), ManuscriptKind.HTML)
     assert found.texts == ["One two three four", "five", "six", "seven", "eight; nine"]
     assert lost(found, LossKind.HIDDEN) == ["two three", "five six", "eight"]
+
+
+def test_what_a_sheet_does_not_show_is_typed_and_noted() -> None:
+    sheet = (
+        ".far, nav.sea { display: none !important } p { display: block } #moon .near { Display:none }"
+        " @media screen { .one { display: none } } @media print { b.two { display: none } }"
+        " div .far { display: inline } .sea::before { display: none }"
+    )
+    body = (
+        "<p>One <i class=far>two</i> three</p><nav class='x sea'>four <p>five</nav><div><p class=far>six</p></div>"
+        "<p class=near>seven <b class=one>eight</b> <b class=two>nine</b></p><div id=moon><p class=near>ten</div>"
+        "<p style='display:block' class=far>eleven</p><p class=sea>twelve</p>"
+    )
+    page = f"<html><head><style>{sheet}</style></head><body>{body}</body></html>"
+    found = read_document(page.encode(), ManuscriptKind.HTML)
+    assert lost(found, LossKind.HIDDEN) == ["two", "four five", "nine", "ten"]
+    assert "ten" in found.texts

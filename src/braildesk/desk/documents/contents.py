@@ -798,11 +798,11 @@ class _Html(Tags):
         elif self._path and (last := self._path[-1].tag) in _ENDED_BY.get(tag, ()):
             self._leave(last)
         if tag not in self._VOID:
-            if self._unshown is None and _is_hidden(attributes):
-                text = len(self._texts) - 1
-                self._unshown = len(self._path), text, len(self._texts[text])
             classes = frozenset((attributes.get("class") or "").split())
             self._path.append(PageElement(tag, attributes.get("id") or "", classes))
+            if self._unshown is None and self._is_hidden(attributes):
+                text = len(self._texts) - 1
+                self._unshown = len(self._path) - 1, text, len(self._texts[text])
             self._tags[tag] += 1
             if tag in self._NESTING and self._tags[tag] > self._DEEPEST:
                 raise NoDocument(WhyNot.TOO_DEEP)
@@ -819,6 +819,11 @@ class _Html(Tags):
             joined = " ".join(map("".join, its)).replace(_SEAM, "")
             if words := plain(joined.replace("\n", " ")):
                 self.hidden.append(words[:_SHOWN])
+
+    def _is_hidden(self, attributes: Mapping[str, str | None]) -> bool:
+        """Whether the element that was opened isn't shown, by itself or by a sheet."""
+        own = attributes.get("style") or ""
+        return "hidden" in attributes or self._sheet.is_unshown(self._path, own)
 
     def _link(self, tag: str, attributes: dict[str, str | None]) -> None:
         if tag == "link" and "stylesheet" in (attributes.get("rel") or "").lower():
@@ -877,15 +882,6 @@ class _Html(Tags):
             self._back, self._open = "", 0
         elif tag in PARTED:
             self._add(" ")
-
-
-def _is_hidden(attributes: Mapping[str, str | None]) -> bool:
-    """Whether an element says itself that it isn't shown."""
-    declared = map(_halves, (attributes.get("style") or "").split(";"))
-    values = {
-        name.strip().lower(): value.strip().lower() for name, _, value in declared
-    }
-    return "hidden" in attributes or values.get("display") == "none"
 
 
 def _first_words(texts: Sequence[Sequence[str]]) -> list[str]:

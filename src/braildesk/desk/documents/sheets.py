@@ -1,5 +1,5 @@
-"""What style sheets say of the marks of lists, and of numbers that they count themselves, as far as a
-plain reader of them can tell.
+"""What style sheets say of the marks of lists, of numbers that they count themselves, and of what isn't shown,
+as far as a plain reader of them can tell.
 
 Rules are known whose selectors name elements, classes and identifiers, within others or not, for all
 media or for print.
@@ -31,7 +31,7 @@ _SELECTOR = re.compile(r"([\w-]+|\*)?((?:[.#][\w-]+)*)")
 _DEEPEST = 8
 #: How many elements around each other are looked at, the innermost: programs that show pages nest no more.
 _INNERMOST = 512
-_TYPE, _DISPLAY = "list-style-type", "display"
+_TYPE, _DISPLAY, _UNSHOWN = "list-style-type", "display", "none"
 _PLACES = ("inside", "outside")
 #: What stands in front of an element, and a number in it; rules say of the element that it is counted.
 _BEFORE = re.compile("::?before$", re.IGNORECASE)
@@ -100,6 +100,9 @@ class Sheet:
         self._rules: list[Rule] = []
         #: Those among them that say whether elements are counted, which are few.
         self._counting: list[Rule] = []
+        #: Those that say how elements are shown, if some aren't, and which of them may be for an element.
+        self._showing: list[Rule] = []
+        self._shown: dict[PageElement, list[Rule]] = {}
         #: What they say of elements that were asked about, each after those that it is within.
         self._found: dict[tuple[PageElement, ...], dict[str, str]] = {}
 
@@ -108,7 +111,10 @@ class Sheet:
         self._rules += rules
         self._rules.sort(key=lambda rule: rule.weight)
         self._counting = [rule for rule in self._rules if _COUNTED in rule.values]
-        self._found = {}
+        self._showing = [rule for rule in self._rules if _DISPLAY in rule.values]
+        if all(rule.values[_DISPLAY] != _UNSHOWN for rule in self._showing):
+            self._showing = []
+        self._found, self._shown = {}, {}
 
     def mark_of(self, path: Sequence[PageElement], own: str) -> str | None:
         """What stands before an item of a list, or the items of one, if that is said.
@@ -126,6 +132,18 @@ class Sheet:
         inner = path[-_INNERMOST:] if self._counting else ()
         fit = [rule.values for rule in self._counting if rule.fits(inner)]
         return bool(fit and fit[-1][_COUNTED])
+
+    def is_unshown(self, path: Sequence[PageElement], own: str) -> bool:
+        """Whether an element isn't shown; ``path`` and ``own`` are as above."""
+        if said := _values(own).get(_DISPLAY):
+            return said == _UNSHOWN
+        its = self._shown.get(path[-1])
+        if its is None:
+            its = [each for each in self._showing if each.selectors[-1].fits(path[-1])]
+            self._shown[path[-1]] = its
+        inner = path[-_INNERMOST:] if its else ()
+        fit = (rule.values[_DISPLAY] for rule in reversed(its) if rule.fits(inner))
+        return next(fit, "") == _UNSHOWN
 
     def _values(self, path: tuple[PageElement, ...]) -> dict[str, str]:
         if path not in self._found:
@@ -186,7 +204,7 @@ def _beside(part: str, address: str) -> str:
 
 
 def rules_of(text: str) -> tuple[Rule, ...]:
-    """The rules of a style sheet that are known and say something of lists."""
+    """The rules of a style sheet that are known and say something of lists, or of what is shown."""
     return tuple(_rules(_COMMENT.sub(" ", text), 1))
 
 
@@ -257,7 +275,7 @@ def _counted(text: str) -> dict[str, str]:
 
 
 def _values(text: str) -> dict[str, str]:
-    """What declarations say of the marks of lists."""
+    """What declarations say of the marks of lists, and of what is shown."""
     values: dict[str, str] = {}
     for declaration in text.split(";"):
         name, _, value = declaration.partition(":")
