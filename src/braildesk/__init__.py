@@ -13,7 +13,7 @@ Nothing is done to a book but by requests to the program. ``docs/CLIENT.md`` des
 No module uses one that is named after it here. In ``braildesk/text``, ``limits`` are numbers,
 ``characters`` names characters and shows those that nobody sees; ``sequences`` parts a text into
 combining sequences, ``spans`` finds words in it, ``cells`` reads and writes cells, ``wrapping``
-makes lines of a width, and ``excerpt`` takes a few words of a text. In ``braildesk/protocol``,
+makes lines of a width, ``shell_words`` writes commands, and ``excerpt`` takes a few words of a text. In ``braildesk/protocol``,
 ``value`` is what dataclasses that never change have in common, ``values`` are some of these,
 ``codes`` are the codes of refusals, and ``fields`` writes and reads each kind of field that a
 request has; ``replies`` reads replies, ``answers`` makes values of these, and ``requests`` is the

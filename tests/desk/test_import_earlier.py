@@ -5,6 +5,8 @@ import os
 import shutil
 import shlex
 import signal
+import subprocess
+import sys
 from collections.abc import Callable, Iterator
 from io import BytesIO, StringIO
 from pathlib import Path
@@ -24,7 +26,7 @@ from sitting import Sat, Sit
 from stand_in import KEPT, KILL_BOTH, KILL_PROGRAM, READ, REPLY
 from terminal import standing_in
 from test_import import TEXT, prints, version
-from tool import Ran, scribe
+from tool import Ran, environment, scribe
 
 LINES = [f"Line number {number} of the moon." for number in range(1, 13)]
 
@@ -220,6 +222,17 @@ def test_commands_that_are_said_take_names_that_begin_with_a_hyphen(
     words = shlex.split(said[1].removeprefix("Go on by: scribe "))
     assert ran(*words).status == 0
     assert prints(killed.with_name("-x")) == ["front", *LINES, "end"]
+
+
+def test_commands_that_are_said_take_names_with_a_line_feed(killed: Path) -> None:
+    name = "the\nmoon"
+    for ending in ("", "-wal"):
+        Path(f"{killed}{ending}").rename(killed.with_name(f"{name}{ending}"))
+    said = ran("show", "--print", name).said.splitlines()
+    assert said[1].startswith("Go on by: scribe import $'the\\012moon' ")
+    words = said[1].replace("Go on by: scribe", f"{sys.executable} -m scribe")
+    subprocess.run(["bash", "-c", words], env=environment(), check=True)
+    assert prints(killed.with_name(name)) == ["front", *LINES, "end"]
 
 
 def test_an_import_that_goes_on_from_a_line_is_done(killed: Path) -> None:

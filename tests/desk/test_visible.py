@@ -1,6 +1,7 @@
 """Characters that nobody sees: refused in what is typed, made visible in what is shown."""
 
 import os
+import subprocess
 from io import BytesIO, StringIO
 from pathlib import Path
 
@@ -8,6 +9,7 @@ import pytest
 
 from braildesk.tables.convert.draft import comment_lines
 from braildesk.text.characters import characters_of, control_refused, near, visible
+from braildesk.text.shell_words import command_line
 
 from scribe.words.console import Console
 from tool import scribe
@@ -26,6 +28,30 @@ from tool import scribe
 )
 def test_what_cannot_be_seen_is_written_out(text: str, wanted: str) -> None:
     assert visible(text) == wanted
+
+
+@pytest.mark.parametrize(
+    "word",
+    [
+        *(
+            "moon",
+            "the moon",
+            "it's",
+            "",
+            "$HOME",
+            "sun\nmoon",
+            "it's\t\\1",
+            "\x1b[2J",
+            "\x010",
+        ),
+        *("caf\u00e9\r", "a\u202eb", "a\u00a0b", "\u2028", "\udcff"),
+    ],
+)
+def test_a_command_is_seen_as_a_shell_reads_it(word: str) -> None:
+    line = command_line(["printf", "%s", word])
+    assert visible(line).isprintable() and visible(line) == line
+    done = subprocess.run(["bash", "-c", line], capture_output=True, check=True)
+    assert done.stdout == os.fsencode(word)
 
 
 @pytest.mark.parametrize(

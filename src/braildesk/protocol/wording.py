@@ -33,7 +33,6 @@ from braildesk.text.characters import (
     code_point,
     named,
     shortened,
-    visible,
 )
 
 
@@ -201,13 +200,14 @@ class _Fields:
     @property
     def take_log(self) -> str:
         """The command that puts a copy which nobody else may write in the place of the log."""
-        import shlex  # which few refusals need
+        # imported here, since few refusals need it
+        from braildesk.text.shell_words import command_line
 
         path = self._asked.path if isinstance(self._asked, AskedOfFile) else "BOOK"
         log = log_path(path)
         own = f"{log}-own"
-        copied = shlex.join(["install", "-m", "600", "--", log, own])
-        return visible(f"{copied} && {shlex.join(['mv', '-f', '--', own, log])}")
+        copied = command_line(["install", "-m", "600", "--", log, own])
+        return f"{copied} && {command_line(['mv', '-f', '--', own, log])}"
 
     @property
     def journal(self) -> str:

@@ -242,7 +242,7 @@ def _left(job: Import, intake: Intake, cut: CutShort, again: str) -> Iterator[st
         # it was said where the print is
         return
     # imported here, since few imports are cut short
-    import shlex
+    from braildesk.text.shell_words import command_line
 
     job = replace(job, book=cut.saved or job.book)
     kept = cut.done if cut.kept is None else cut.kept
@@ -266,7 +266,7 @@ def _left(job: Import, intake: Intake, cut: CutShort, again: str) -> Iterator[st
     elif (cut.is_lacking or not is_all_typed) and again and cut.is_noted:
         yield again
     elif cut.is_lacking or not is_all_typed:
-        words = shlex.join(_command_from(job, intake, kept, cut.is_noted))
+        words = command_line(_command_from(job, intake, kept, cut.is_noted))
         yield f"When nothing stands in the way any more, go on by: {words}"
 
 
@@ -400,10 +400,10 @@ def reminders(found: Unfinished | NotSeen | NotKept, book: Path) -> Iterator[str
     if isinstance(found, NotKept):
         yield not_kept(found)
         return
-    import shlex  # as above
+    from braildesk.text.shell_words import command_line  # as above
 
     its = path_word(book), path_word(found.note.text)
-    words = shlex.join(["scribe", "import", *its])
+    words = command_line(["scribe", "import", *its])
     if isinstance(found, Unfinished):
         yield came_to(found)
         yield f"Go on by: {words} --continue"

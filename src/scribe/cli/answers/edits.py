@@ -1,12 +1,12 @@
 """What the commands do that send one request each, and show what it changed."""
 
-import shlex
 from argparse import Namespace
 from collections.abc import Callable, Mapping
 from typing import Any
 
 from braildesk import Code, NotFound, Session, Style, requests
 from braildesk.protocol.requests import Command
+from braildesk.text.shell_words import command_line
 
 from scribe.cli.book_command import Answer
 from scribe.words.changes import carried_out
@@ -51,5 +51,5 @@ def _no_mark(arguments: Namespace) -> str:
     if "wait" not in arguments:
         # at the prompt of talk, which has the book open
         return no_mark(arguments.mark)
-    command = shlex.join(["scribe", "marks", path_word(arguments.file)])
+    command = command_line(["scribe", "marks", path_word(arguments.file)])
     return no_mark(arguments.mark, command)

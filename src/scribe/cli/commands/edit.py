@@ -1,7 +1,6 @@
 """`scribe edit`: the book on the screen."""
 
 import os
-import shlex
 import shutil
 import sys
 from argparse import ArgumentParser, Namespace
@@ -10,6 +9,7 @@ from io import TextIOWrapper
 from typing import TYPE_CHECKING
 
 from braildesk import Lost
+from braildesk.text.shell_words import command_line
 
 from scribe.cli.own_modules import hold_modules
 from scribe.cli.page_size import add_page_size, page_size_of
@@ -55,10 +55,10 @@ def run(arguments: Namespace, console: Console) -> Status:
             " run and scribe talk work without one. Nothing was changed."
         )
     if os.environ.get("TERM") == "dumb":
+        talk = command_line(["scribe", "talk", path_word(arguments.file)])
         raise Stop(
             "scribe edit needs a terminal on which the cursor moves, and TERM says that this one is"
-            f" dumb. scribe talk {shlex.quote(path_word(arguments.file))} works here. Nothing was"
-            " changed."
+            f" dumb. {talk} works here. Nothing was changed."
         )
     try:
         # imported here, since only this command needs prompt_toolkit
