@@ -3,6 +3,7 @@
 import re
 import resource
 import sqlite3
+import subprocess
 import sys
 from contextlib import closing
 from pathlib import Path
@@ -12,7 +13,7 @@ import pytest
 import braildesk
 from braildesk import Session
 
-from tool import Ran, scribe
+from tool import Ran, environment, scribe
 
 TEXT = "The moon\nis far away.\n\nTides\n\n\tTwice a day.\n"
 
@@ -423,6 +424,16 @@ sys.exit(status)
 """
 
 
+def ending(book: Path, process: str, signal: str) -> Path:
+    """A program beside a book that stands for braildesk, and ends a process by a signal."""
+    between = book.parent / "between"
+    between.write_text(
+        ENDING.format(python=sys.executable, process=process, signal=signal)
+    )
+    between.chmod(0o755)
+    return between
+
+
 @pytest.mark.parametrize(
     "process, signal, sentence, status",
     [
@@ -435,11 +446,7 @@ sys.exit(status)
 def test_an_import_that_is_cut_short_says_what_is_in_the_book(
     book: Path, program: str, process: str, signal: str, sentence: str, status: int
 ) -> None:
-    between = book.parent / "between"
-    between.write_text(
-        ENDING.format(python=sys.executable, process=process, signal=signal)
-    )
-    between.chmod(0o755)
+    between = ending(book, process, signal)
     lines = [f"Line number {number} of the moon." for number in range(1, 2001)]
     (book.parent / "text.txt").write_text("\n".join(lines))
     put(book, "front\n\nend", name="other.txt")
@@ -461,3 +468,26 @@ def test_an_import_that_is_cut_short_says_what_is_in_the_book(
     words = ("import", book, "text.txt", "--continue")
     assert scribe(*words, folder=book.parent).status == 0
     assert prints(book) == ["front", *lines, "end"]
+
+
+def test_an_import_of_what_the_shell_handed_over_goes_on_from_a_file(
+    book: Path, program: str
+) -> None:
+    lines = [f"Line number {number} of the moon." for number in range(1, 2001)]
+    (book.parent / "text.txt").write_text("\n".join(lines))
+    words = f"{sys.executable} -m scribe import {book} <(cat text.txt) --lines"
+    between = ending(book, "session.pid", "SIGKILL")
+    ran = subprocess.run(
+        ["bash", "-c", words],
+        cwd=book.parent,
+        env=environment(BRAILDESK=str(between), PROGRAM=program),
+        capture_output=True,
+    )
+    found = re.search(
+        "any more, write the whole text to a file, here FILE, and go on by:"
+        rf" scribe import {book} FILE --lines --from (\d+)\n$",
+        ran.stderr.decode(),
+    )
+    assert ran.returncode == 3 and found is not None
+    assert put(book, "\n".join(lines), "--lines", "--from", found[1]).status == 0
+    assert prints(book) == lines

@@ -56,7 +56,7 @@ from braildesk.desk.replacements import BadReplacements
 from braildesk.desk.typist import CutShort
 from braildesk.desk.unfinished import NotSeen, Unfinished
 from braildesk.desk.whole_file import AnotherIsThere, write_whole
-from braildesk.named_files import is_same_file
+from braildesk.named_files import is_handed_over, is_same_file
 from braildesk.protocol.asked import journal_path, log_path, real_path
 from braildesk.text import characters, limits
 from braildesk.text.characters import visible
@@ -266,8 +266,13 @@ def _left(job: Import, intake: Intake, cut: CutShort, again: str) -> Iterator[st
     elif (cut.is_lacking or not is_all_typed) and again and cut.is_noted:
         yield again
     elif cut.is_lacking or not is_all_typed:
+        then = "When nothing stands in the way any more,"
+        if is_handed_over(job.text):
+            # which is no way to it for another command
+            job = replace(job, text=Path("FILE"))
+            then += " write the whole text to a file, here FILE, and"
         words = command_line(_command_from(job, intake, kept, cut.is_noted))
-        yield f"When nothing stands in the way any more, go on by: {words}"
+        yield f"{then} go on by: {words}"
 
 
 def _command_from(job: Import, intake: Intake, kept: int, is_noted: bool) -> list[str]:
