@@ -388,6 +388,30 @@ def test_words_of_drawings_are_missing_unless_they_are_typed(tmp_path: Path) -> 
     )
 
 
+def test_a_picture_in_docx_that_another_file_has_is_noted_unless_it_is_described(
+    tmp_path: Path,
+) -> None:
+    relations = "http://schemas.openxmlformats.org/officeDocument/2006/relationships"
+    shown = (
+        '<w:r><w:drawing><wp:inline><wp:docPr id="1" name="a" descr="{}"/><a:graphic>'
+        f'<a:graphicData><a:blip xmlns:r="{relations}" r:link="rId9"/></a:graphicData></a:graphic>'
+        "</wp:inline></w:drawing></w:r>"
+    )
+    body = "".join(
+        map(
+            paragraph,
+            (shown.format(""), run("One"), shown.format(""), shown.format("Sea")),
+        )
+    )
+    body += paragraph(run("Two") + shown.format(" ")) + paragraph(
+        deleted(shown.format(""))
+    )
+    found = read_manuscript(docx(tmp_path / "pictures.docx", body))
+    around = [each.around for each in found.losses if each.what is LossKind.PICTURE]
+    assert around == ["", "One", "Two"]
+    assert [each.words for each in found.missing] == ["Sea"]
+
+
 def test_print_that_is_said_not_to_be_hidden_is_not(tmp_path: Path) -> None:
     body = paragraph(
         run("One", '<w:vanish w:val="0"/>') + run(" two", '<w:vanish w:val="true"/>')

@@ -82,6 +82,7 @@ _NEIGHBOURS = 4
 
 _W = "{http://schemas.openxmlformats.org/wordprocessingml/2006/main}"
 _A = "{http://schemas.openxmlformats.org/drawingml/2006/main}"
+_R = "{http://schemas.openxmlformats.org/officeDocument/2006/relationships}"
 _V = "{urn:schemas-microsoft-com:vml}"
 #: The elements of a drawing that have words beside their text, and the name by which they do.
 _DESCRIPTIONS = {
@@ -372,6 +373,7 @@ def _of_docx(container: zipfile.ZipFile, found: Contents) -> None:
             found.passages += _paragraphs(root)
             found.passages += filter(None, map(shown_of_code, _codes(root)))
             _set_aside(root, found)
+            found.losses += map(partial(Loss, LossKind.PICTURE, ""), _linked(root))
         elif _DOCX_EDGES.fullmatch(name):
             for passage in _paragraphs(_root(container, name)):
                 found.add_edge(passage)
@@ -397,6 +399,30 @@ def _set_aside(root: Element, found: Contents) -> None:
         for each in root.iter(tag):
             texts = (*each.iter(f"{_W}delText"), *each.iter(f"{_W}t"))
             found.lose(LossKind.DELETED, "".join(text.text or "" for text in texts))
+
+
+def _linked(root: Element) -> Iterator[str]:
+    """The words at each picture that another file has and nothing describes, of which pandoc says nothing."""
+    gone = (_FALLBACK, *_DELETED)
+    seen = {id(each) for tag in gone for part in root.iter(tag) for each in part.iter()}
+    words = ""
+    for paragraph in root.iter(f"{_W}p"):
+        text = "".join(each.text or "" for each in paragraph.iter(f"{_W}t"))
+        words = plain(text)[:_SHOWN] or words
+        for drawing in paragraph.iter(f"{_W}drawing"):
+            pictures = list(drawing.iter(f"{_A}blip"))
+            is_linked = any(f"{_R}link" in each.attrib for each in pictures)
+            is_linked &= not any(f"{_R}embed" in each.attrib for each in pictures)
+            if is_linked and id(drawing) not in seen and not _is_described(drawing):
+                yield words
+            seen.add(id(drawing))
+
+
+def _is_described(drawing: Element) -> bool:
+    its = (drawing.iter(tag) for tag in _DESCRIPTIONS)
+    return any(
+        each.get(_DESCRIPTIONS[each.tag], "").strip() for found in its for each in found
+    )
 
 
 def _paragraphs(element: Element) -> Iterator[str]:
