@@ -2123,6 +2123,13 @@ def test_titles_and_what_there_is_to_choose_from_in_a_form_are_parted() -> None:
     assert (found.texts, found.missing) == (texts, ())
 
 
+def test_the_end_of_a_line_parts_words_however_it_is_written() -> None:
+    page = "<html><p>One<br>two<br/>three</br>four</BR >five<p>six</br></p></html>"
+    found = read_document(page.encode(), ManuscriptKind.HTML)
+    assert found.texts == ["One", "two", "three", "four", "five", "six"]
+    assert found.missing == ()
+
+
 def test_pictures_without_an_address_are_described_too() -> None:
     page = (
         "<html><p>One <img alt='A crater'> two <img data-src=x alt=Sea /> three <img>"

@@ -200,6 +200,9 @@ class _Rewriting(Tags):
             self._put(name, name + len(tag), _WRITTEN[tag])
         elif tag in _COLUMNS:
             self._put(start, stop, "")
+        elif tag == "br":
+            # an end of nothing, which browsers take for the end of a line too
+            self._put(start, stop, "<br/>")
         elif tag == _TEMPLATE and self._templates:
             self._put(self._templates.pop(), stop, "")
 
