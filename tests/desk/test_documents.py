@@ -2123,6 +2123,17 @@ def test_titles_and_what_there_is_to_choose_from_in_a_form_are_parted() -> None:
     assert (found.texts, found.missing) == (texts, ())
 
 
+def test_words_that_a_style_alone_parts_are_noted() -> None:
+    page = (
+        "<html><style>.no { display: block } li i { display: Flex } b { display: inline }</style>"
+        "<p><span class=no>1</span><a href='#a'>The <b>mo</b>on</a><span style='display:table-cell'>2"
+        "</span>sea <span class=no>3</span> sand</p><ul><li>tide<i>s</i> <i>4</i></ul><p class=no>5</p>6"
+    )
+    found = read_document(page.encode(), ManuscriptKind.HTML)
+    assert found.texts[0] == "1The moon2sea 3 sand"
+    assert lost(found, LossKind.JOINED) == ["1The", "moon2sea", "moon2sea", "tides"]
+
+
 def test_the_end_of_a_line_parts_words_however_it_is_written() -> None:
     page = "<html><p>One<br>two<br/>three</br>four</BR >five<p>six</br></p></html>"
     found = read_document(page.encode(), ManuscriptKind.HTML)

@@ -74,6 +74,10 @@ _SAID = {
         "1 further number of a note is typed without brackets, as the document shows it",
         "{} further numbers of notes are typed without brackets, as the document shows them",
     ),
+    LossKind.JOINED: (
+        "1 blank isn't typed, where a style alone parts words",
+        "{} blanks aren't typed, where styles alone part words",
+    ),
     LossKind.HIDDEN: (
         "1 piece of text that is hidden in the document is typed too",
         "{} pieces of text that are hidden in the document are typed too",

@@ -75,6 +75,12 @@ _ENDED_BY: dict[str, tuple[str, ...]] = {
     **{tag: (tag,) for tag in ("p", "tr", "option")},
 }
 _FOR_PRINT = re.compile(r"\b(all|print)\b", re.IGNORECASE)
+#: In how many pieces of a text on either side of a place the words are looked for that run together there.
+_BESIDE = 8
+#: How a style shows what stands on lines of its own.
+_APART = frozenset(
+    "block flex flow-root grid list-item table table-cell table-row".split()
+)
 #: In how many places a passage is looked for, of which each word may stand nearly everywhere.
 _MOST_TRIED = 1_000
 #: How many words before and after missing ones are shown.
@@ -161,6 +167,8 @@ class Contents:
     def note_page(self, page: "_Html") -> None:
         """Notes the numbers of a page that is typed which aren't so in print."""
         self.note_numbers(page.numbers)
+        for words in page.joined:
+            self.lose(LossKind.JOINED, words)
         for words in page.hidden:
             self.lose(LossKind.HIDDEN, words)
         for words in page.restyled:
@@ -703,6 +711,10 @@ class _Html(Tags):
         #: and its first text and piece.
         self.hidden: list[str] = []
         self._unshown: tuple[int, int, int] | None = None
+        #: How many elements are open around each that stands on lines of its own by its style alone; and before which
+        #: piece of which text such a one begins or ends.
+        self._apart: list[int] = []
+        self._seams: list[tuple[int, int]] = []
         #: The element that leads back from a note, and how many of its name are open in it.
         self._back, self._open = "", 0
 
@@ -726,6 +738,16 @@ class _Html(Tags):
     def restyled(self) -> Iterator[str]:
         """The first words of each list that has other marks in print than those that are typed."""
         yield from self._firsts(each.restyled for each in self._found)
+
+    @property
+    def joined(self) -> Iterator[str]:
+        """The words that run together at each place where a style alone parts them."""
+        for text, place in dict.fromkeys(self._seams):
+            front, pieces = max(place - _BESIDE, 0), self._texts[text]
+            before = "".join(pieces[front:place]).replace(_SEAM, "")
+            after = "".join(pieces[place : place + _BESIDE]).replace(_SEAM, "")
+            if before[-1:].strip() and after[:1].strip():
+                yield before.split()[-1] + after.split()[0]
 
     @property
     def counted(self) -> Iterator[str]:
@@ -826,18 +848,30 @@ class _Html(Tags):
         if tag not in self._VOID:
             classes = frozenset((attributes.get("class") or "").split())
             self._path.append(PageElement(tag, attributes.get("id") or "", classes))
-            if self._unshown is None and self._is_hidden(attributes):
-                text = len(self._texts) - 1
-                self._unshown = len(self._path) - 1, text, len(self._texts[text])
+            self._look_at(tag, attributes)
             self._tags[tag] += 1
             if tag in self._NESTING and self._tags[tag] > self._DEEPEST:
                 raise NoDocument(WhyNot.TOO_DEEP)
+
+    def _look_at(self, tag: str, attributes: Mapping[str, str | None]) -> None:
+        """Notes of an element that it isn't shown, or stands on lines of its own by its style alone."""
+        own = attributes.get("style") or ""
+        display = self._sheet.display_of(self._path, own)
+        text = len(self._texts) - 1
+        if self._unshown is None and ("hidden" in attributes or display == "none"):
+            self._unshown = len(self._path) - 1, text, len(self._texts[text])
+        elif display in _APART and tag not in BLOCKS | PARTED:
+            self._apart.append(len(self._path) - 1)
+            self._seams.append((text, len(self._texts[text])))
 
     def _leave(self, tag: str) -> None:
         left = None if self._tags[tag] else tag
         while left != tag:
             left = self._path.pop().tag
             self._tags[left] -= 1
+        while self._apart and len(self._path) <= self._apart[-1]:
+            self._apart.pop()
+            self._seams.append((len(self._texts) - 1, len(self._texts[-1])))
         if self._unshown and len(self._path) <= self._unshown[0]:
             _, text, piece = self._unshown
             self._unshown = None
@@ -845,11 +879,6 @@ class _Html(Tags):
             joined = " ".join(map("".join, its)).replace(_SEAM, "")
             if words := plain(joined.replace("\n", " ")):
                 self.hidden.append(words[:_SHOWN])
-
-    def _is_hidden(self, attributes: Mapping[str, str | None]) -> bool:
-        """Whether the element that was opened isn't shown, by itself or by a sheet."""
-        own = attributes.get("style") or ""
-        return "hidden" in attributes or self._sheet.is_unshown(self._path, own)
 
     def _link(self, tag: str, attributes: dict[str, str | None]) -> None:
         if tag == "link" and "stylesheet" in (attributes.get("rel") or "").lower():

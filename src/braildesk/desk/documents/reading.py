@@ -46,6 +46,7 @@ class LossKind(Enum):
     NOTE = auto()
     NOTE_AGAIN = auto()
     NOTE_NUMBER = auto()
+    JOINED = auto()
     HIDDEN = auto()
     DELETED = auto()
     COMMENT = auto()

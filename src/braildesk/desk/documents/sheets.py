@@ -1,5 +1,5 @@
-"""What style sheets say of the marks of lists, of numbers that they count themselves, and of what isn't shown,
-as far as a plain reader of them can tell.
+"""What style sheets say of the marks of lists, of numbers that they count themselves, of what isn't shown, and of
+what stands on lines of its own, as far as a plain reader of them can tell.
 
 Rules are known whose selectors name elements, classes and identifiers, within others or not, for all
 media or for print.
@@ -31,7 +31,7 @@ _SELECTOR = re.compile(r"([\w-]+|\*)?((?:[.#][\w-]+)*)")
 _DEEPEST = 8
 #: How many elements around each other are looked at, the innermost: programs that show pages nest no more.
 _INNERMOST = 512
-_TYPE, _DISPLAY, _UNSHOWN = "list-style-type", "display", "none"
+_TYPE, _DISPLAY = "list-style-type", "display"
 _PLACES = ("inside", "outside")
 #: What stands in front of an element, and a number in it; rules say of the element that it is counted.
 _BEFORE = re.compile("::?before$", re.IGNORECASE)
@@ -58,6 +58,13 @@ class _Selector:
     tag: str
     names: frozenset[str]
     classes: frozenset[str]
+
+    @property
+    def key(self) -> str:
+        """One of the things that it names, which each element has that is such a one."""
+        if self.names:
+            return f"#{min(self.names)}"
+        return f".{min(self.classes)}" if self.classes else self.tag
 
     def fits(self, element: PageElement) -> bool:
         """Whether an element is such a one."""
@@ -100,8 +107,9 @@ class Sheet:
         self._rules: list[Rule] = []
         #: Those among them that say whether elements are counted, which are few.
         self._counting: list[Rule] = []
-        #: Those that say how elements are shown, if some aren't, and which of them may be for an element.
-        self._showing: list[Rule] = []
+        #: Those that say how elements are shown, with their places, by what their last selectors name; and which of
+        #: them may be for an element.
+        self._showing: dict[str, list[tuple[int, Rule]]] = {}
         self._shown: dict[PageElement, list[Rule]] = {}
         #: What they say of elements that were asked about, each after those that it is within.
         self._found: dict[tuple[PageElement, ...], dict[str, str]] = {}
@@ -111,9 +119,11 @@ class Sheet:
         self._rules += rules
         self._rules.sort(key=lambda rule: rule.weight)
         self._counting = [rule for rule in self._rules if _COUNTED in rule.values]
-        self._showing = [rule for rule in self._rules if _DISPLAY in rule.values]
-        if all(rule.values[_DISPLAY] != _UNSHOWN for rule in self._showing):
-            self._showing = []
+        self._showing = {}
+        for placed in enumerate(self._rules):
+            if _DISPLAY in placed[1].values:
+                key = placed[1].selectors[-1].key
+                self._showing.setdefault(key, []).append(placed)
         self._found, self._shown = {}, {}
 
     def mark_of(self, path: Sequence[PageElement], own: str) -> str | None:
@@ -133,17 +143,26 @@ class Sheet:
         fit = [rule.values for rule in self._counting if rule.fits(inner)]
         return bool(fit and fit[-1][_COUNTED])
 
-    def is_unshown(self, path: Sequence[PageElement], own: str) -> bool:
-        """Whether an element isn't shown; ``path`` and ``own`` are as above."""
+    def display_of(self, path: Sequence[PageElement], own: str) -> str:
+        """How an element is shown, if that is said; ``path`` and ``own`` are as above."""
         if said := _values(own).get(_DISPLAY):
-            return said == _UNSHOWN
+            return said
         its = self._shown.get(path[-1])
         if its is None:
-            its = [each for each in self._showing if each.selectors[-1].fits(path[-1])]
-            self._shown[path[-1]] = its
+            its = self._shown[path[-1]] = self._for(path[-1])
         inner = path[-_INNERMOST:] if its else ()
         fit = (rule.values[_DISPLAY] for rule in reversed(its) if rule.fits(inner))
-        return next(fit, "") == _UNSHOWN
+        return next(fit, "")
+
+    def _for(self, element: PageElement) -> list[Rule]:
+        """Those rules that say how an element is shown, wherever it stands."""
+        keys = ["*", element.tag, f"#{element.name}"]
+        keys += [f".{each}" for each in element.classes]
+        found = {
+            place: rule for key in keys for place, rule in self._showing.get(key, ())
+        }
+        its = (found[place] for place in sorted(found))
+        return [rule for rule in its if rule.selectors[-1].fits(element)]
 
     def _values(self, path: tuple[PageElement, ...]) -> dict[str, str]:
         if path not in self._found:
