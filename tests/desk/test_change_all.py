@@ -20,15 +20,18 @@ from braildesk import Entry, Kind, Session
 from braildesk.desk.change import Change, change_place
 from braildesk.desk.change_all import (
     NotChanged,
+    Proposal,
     Replacement,
     change_proposed,
     proposals,
 )
+from braildesk.desk.change_note import Became, ChangeNote, NotedPlace
 from braildesk.desk.drafts import Drafts
 from braildesk.desk.ranges import ParagraphRange
 from braildesk.desk.tables import FOLDER
 from braildesk.text.spans import Span
 from scribe.cli import run_words
+from scribe.words.change_all import cut_short, proposal_lines
 from scribe.words.console import Console
 from scribe.words.status import Interrupted
 
@@ -328,6 +331,19 @@ def killed(book: Path, name: str, *words: str, at: int = 2, given: str = "") -> 
     )
     assert ran.status == -signal.SIGKILL
     once_free(book).close()
+
+
+def test_thousands_of_places_are_counted_as_other_things_are() -> None:
+    its = Proposal(1, "The tide", Span(4, 8), "sea")
+    assert proposal_lines(its, 1_034, 1_035, 80)[0] == (
+        "Place 1,034 of 1,035, paragraph 1: The [tide]"
+    )
+    place = NotedPlace(1, 8, 4, "tide", Became.OPEN)
+    note = ChangeNote("tide", "sea", False, False, 1, (place,) * 1_035)
+    became = [Became.CHANGED] * 1_034 + [Became.OPEN]
+    assert cut_short(note, became) == (
+        "Changing “tide” to “sea” was cut short: 1,034 of 1,035 places are changed."
+    )
 
 
 @pytest.mark.parametrize("how", ["", "--ask", "talk"])

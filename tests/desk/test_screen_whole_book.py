@@ -158,6 +158,20 @@ def test_places_that_were_changed_or_left_before_all_the_others_are_counted_too(
     assert prints(tides) == ["The tide", TIDES.replace("The tide", "The flood")]
 
 
+def test_a_thousand_places_are_counted_as_other_things_are(
+    book: Path, sit: Sit
+) -> None:
+    with Session(book) as session:
+        session.add_paragraph("end", "en", "a " * 999 + "a")
+    sat = sit(book)
+    asked(sat, "a", "b")
+    sat.press("down", "y")
+    assert sat.state.pages
+    first, _, second, _ = sat.state.pages.lines[:4]
+    assert first.startswith("Place 1 of 1,000, changed, paragraph 1: [b] a a ")
+    assert second.startswith("Place 2 of 1,000, paragraph 1: b [a] a ")
+
+
 @pytest.mark.parametrize("size", [Size(24, 16), Size(200, 60)])
 def test_a_terminal_of_another_size_has_the_same_place_under_the_cursor(
     tides: Path, sit: Sit, size: Size

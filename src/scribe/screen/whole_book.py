@@ -287,7 +287,7 @@ def _lines_of(its: Place, nth: int, count: int, width: int) -> list[str]:
         what = ", left" if its.is_left else ""
         return proposal_lines(its.proposal, nth, count, width, what)
     now, was = its.proposal, its.change
-    head = f"Place {nth} of {count}, changed, paragraph {now.paragraph}: "
+    head = f"Place {nth:,} of {count:,}, changed, paragraph {now.paragraph}: "
     return [
         *excerpt_lines(head, now.text, now.place.start, now.place.stop, width),
         *excerpt_lines("Before: ", was.before, was.went.start, was.went.stop, width),

@@ -162,8 +162,9 @@ def cut_short(note: ChangeNote, now: Sequence[Became], already: str = "") -> str
     if least and not changed:
         return f"{what} was cut short, and it isn't seen how far it came."
     is_are = "is" if changed < 2 else "are"
+    some = f"{changed:,}" if changed else "none"
     return (
-        f"{what} was cut short: {least}{changed or 'none'} of {counted(len(places), 'place')}"
+        f"{what} was cut short: {least}{some} of {counted(len(places), 'place')}"
         f" {is_are} changed{already}."
     )
 
@@ -172,7 +173,7 @@ def proposal_lines(
     found: Proposal, nth: int, count: int, width: int, what: str = ""
 ) -> list[str]:
     """A place as it is and as it would be, after what is said of it."""
-    head = f"Place {nth} of {count}{what}, paragraph {found.paragraph}: "
+    head = f"Place {nth:,} of {count:,}{what}, paragraph {found.paragraph}: "
     after = "After: "
     now, came = found.after
     place = found.place
