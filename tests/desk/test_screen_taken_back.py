@@ -103,8 +103,8 @@ def test_pasted_paragraphs_are_taken_back_together_once_that_is_asked(
     ]
     sat.press("u")
     asked = (
-        "The last key did this: paragraph 1 was corrected, and 2 paragraphs were typed, 4 to 5."
-        " Shall all of it be taken back?"
+        "This was done last and isn't taken back: paragraph 1 was corrected, and 2 paragraphs were"
+        " typed, 4 to 5. Shall all of it be taken back?"
     )
     assert sat.state.question and sat.state.question.sentence == asked
     sat.press("n")
@@ -139,8 +139,8 @@ def test_an_import_is_taken_back_by_striking_its_paragraphs(
     sat.state = sat.desk.away(sat.state, print)
     sat.press("escape", "u")
     assert sat.state.question and sat.state.question.sentence == (
-        "The last key did this: 3 paragraphs were imported, 4 to 6. Shall all of it be taken"
-        " back?"
+        "This was done last and isn't taken back: 3 paragraphs were imported, 4 to 6. Shall all of"
+        " it be taken back?"
     )
     sat.press("y")
     sat.state = sat.desk.away(sat.state, print)
@@ -288,7 +288,12 @@ def test_what_is_refused_midway_is_said_and_the_rest_is_taken_back_later(
     assert sat.state.message.startswith("1 of 3 done. ")
     assert "Nothing was changed" not in sat.state.message
     assert [each.struck for each in sat.state.book[1:4]] == [False, False, True]
-    sat.press("u", "y")
+    sat.press("u")
+    assert sat.state.question and sat.state.question.sentence == (
+        "This was done last: 3 paragraphs were typed, 4 to 6. 1 of its 3 changes is taken back."
+        " Shall the rest be taken back?"
+    )
+    sat.press("y")
     sat.state = sat.desk.away(sat.state, print)
     assert [each.struck for each in sat.state.book[1:4]] == [True, True, True]
     assert (sat.state.version, sat.state.deeds) == (13, ())

@@ -97,8 +97,8 @@ def test_all_places_are_changed_by_one_key_and_taken_back_by_one(
     sat.press("u")
     assert sat.state.question is not None
     assert sat.state.question.sentence == (
-        "The last key did this: “tide” was replaced by “flood” in 3 places of 2 paragraphs."
-        " Shall all of it be taken back?"
+        "This was done last and isn't taken back: “tide” was replaced by “flood” in 3 places of 2"
+        " paragraphs. Shall all of it be taken back?"
     )
     sat.press("y")
     sat.state = sat.desk.away(sat.state, lambda _: None)
@@ -136,6 +136,23 @@ def test_places_are_changed_and_left_one_by_one(tides: Path, sit: Sit) -> None:
     assert sat.state.message == "Taken back: paragraph 2 was corrected."
     sat.desk.close()
     assert prints(tides) == ["The tide", TIDES.replace("The tide", "The flood")]
+
+
+def test_what_was_done_last_is_said_also_once_something_later_was_taken_back(
+    tides: Path, sit: Sit
+) -> None:
+    sat = sit(tides)
+    for old, new in (("tide", "flood"), ("flood", "sea")):
+        asked(sat, old, new)
+        sat.press("a", "escape")
+    sat.press("u", "y")
+    sat.state = sat.desk.away(sat.state, lambda _: None)
+    sat.press("u")
+    assert sat.state.question is not None
+    assert sat.state.question.sentence == (
+        "This was done last and isn't taken back: “tide” was replaced by “flood” in 3 places of 2"
+        " paragraphs. Shall all of it be taken back?"
+    )
 
 
 def test_places_that_were_changed_or_left_before_all_the_others_are_counted_too(

@@ -287,8 +287,7 @@ def _take_back(state: State) -> Step:
         return Step(replace(state, deeds=tuple(earlier)).saying(said))
     if len(deed.back) == 1:
         return Step(state, TakeBack())
-    sentence = f"The last key did this: {deed.what}. Shall all of it be taken back?"
-    return Step(replace(state, question=Question(sentence, yes=TakeBack())))
+    return Step(replace(state, question=Question(deed.question, yes=TakeBack())))
 
 
 def _bring_back(state: State) -> Step:

@@ -411,7 +411,7 @@ def so_far(state: State, done: int) -> State:
     """The state after so many commands that take back what a key last did."""
     *earlier, deed = state.deeds
     rest = deed.back[done:]
-    left = [replace(deed, back=rest)] if rest else []
+    left = [replace(deed, back=rest, taken=deed.taken + done)] if rest else []
     return replace(state, deeds=(*earlier, *left))
 
 

@@ -27,6 +27,20 @@ class Deed:
     paragraph: int | None = None
     #: The mark that was resolved, in whose place a new one is put.
     mark: int | None = None
+    #: How many of its changes were taken back before those that are left.
+    taken: int = 0
+
+    @property
+    def question(self) -> str:
+        """What is asked before it is taken back, if that takes more than one change."""
+        if not self.taken:
+            said = f"This was done last and isn't taken back: {self.what}."
+            return f"{said} Shall all of it be taken back?"
+        is_are, whole = "is" if self.taken == 1 else "are", self.taken + len(self.back)
+        return (
+            f"This was done last: {self.what}. {self.taken:,} of its {whole:,} changes {is_are} taken"
+            " back. Shall the rest be taken back?"
+        )
 
     @property
     def sentence(self) -> str:
