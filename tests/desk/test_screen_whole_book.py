@@ -175,6 +175,17 @@ def test_places_that_were_changed_or_left_before_all_the_others_are_counted_too(
     assert prints(tides) == ["The tide", TIDES.replace("The tide", "The flood")]
 
 
+def test_places_that_were_changed_in_another_list_of_the_words_are_counted_too(
+    tides: Path, sit: Sit
+) -> None:
+    sat = sit(tides)
+    asked(sat, "tide", "flood")
+    sat.press("down", "y", "w", "a")
+    assert sat.state.pages and sat.state.pages.lines[0] == (
+        "“tide” was replaced by “flood” in 2 places of 2 paragraphs."
+    )
+
+
 def test_a_thousand_places_are_counted_as_other_things_are(
     book: Path, sit: Sit
 ) -> None:

@@ -367,9 +367,9 @@ def _all_changed(
 
 
 def _done_before(offer: ChangePlaces) -> Count:
-    """What became of the places of a list that were changed or left one by one."""
+    """What became of the places that were changed or left one by one, also in other lists."""
     count = Count(offer.wanted)
-    for each in offer.places:
+    for each in (*offer.elsewhere, *offer.places):
         if each.change is not None:
             count.add(each.change)
         elif each.is_left:
