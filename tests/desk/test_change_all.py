@@ -333,6 +333,26 @@ def killed(book: Path, name: str, *words: str, at: int = 2, given: str = "") -> 
     once_free(book).close()
 
 
+def test_where_it_is_stopped_while_it_looks_no_place_is_said_to_be_all(
+    tides: Path, monkeypatch: pytest.MonkeyPatch
+) -> None:
+    killed(tides, "change-all", "tide", "tides")
+
+    def stopped(*_: object) -> None:
+        raise KeyboardInterrupt
+
+    monkeypatch.setattr("braildesk.desk.changed_so_far.proposals", stopped)
+    said = StringIO()
+    with pytest.raises(Interrupted):
+        run_words(
+            ["change-all", str(tides), "tide", "tides"],
+            Console(BytesIO(), StringIO(), said),
+        )
+    assert said.getvalue() == (
+        "Stopped. Nothing was changed. The book is at version 7.\n"
+    )
+
+
 def test_thousands_of_places_are_counted_as_other_things_are() -> None:
     its = Proposal(1, "The tide", Span(4, 8), "sea")
     assert proposal_lines(its, 1_034, 1_035, 80)[0] == (

@@ -110,8 +110,9 @@ def answer(session: Session, arguments: Namespace, console: Console) -> Status:
 
     with said_where_stopped(session, arguments, console, so_far):
         further = Further(session, drafts, wanted)
-        before += (became for _, became in further.answered)
         found += further.found()
+        # how many were changed before is said beside those that are left
+        before += (became for _, became in further.answered)
         for note, places in further.notes:
             console.say(cut_short(note, [became for _, became in places], " already"))
         if not found and before:
