@@ -333,6 +333,27 @@ def killed(book: Path, name: str, *words: str, at: int = 2, given: str = "") -> 
     once_free(book).close()
 
 
+@pytest.mark.parametrize("name", ["change-all", "talk"])
+def test_an_answer_ends_a_change_that_was_cut_short_and_the_end_of_the_input_does_not(
+    tides: Path, name: str
+) -> None:
+    killed(tides, "change-all", "tide", "tides")
+    words, given = ["tide", "tides", "--ask"], "yes\n"
+    if name == "talk":
+        words, given = [], f"change-all {' '.join(words)}\n{given}"
+    ran = scribe(name, tides, *words, folder=tides.parent, given=given)
+    assert ran.said.endswith(
+        "“tide” was replaced by “tides” in 1 place of 1 paragraph.\n"
+        "The book is at version 8.\nThe input ended, so the rest stays as it was.\n"
+    )
+    ran = changed(tides, "tide", "tides", "--ask", given="stop\n")
+    assert ran.said.startswith(
+        "Changing “tide” to “tides” was cut short: 3 of 5 places are changed already.\n"
+    )
+    assert "“tide” was replaced by “tides” nowhere.\n2 places stay as" in ran.said
+    assert Drafts(tides).changes() == ()
+
+
 def test_where_it_is_stopped_while_it_looks_no_place_is_said_to_be_all(
     tides: Path, monkeypatch: pytest.MonkeyPatch
 ) -> None:

@@ -48,6 +48,11 @@ EXAMPLE = """\
 scribe change-all moon.braildesk moon sun --words --dry-run
 scribe change-all moon.braildesk moon sun --case --in 1-2 --by anna"""
 _OFFER = "; --case changes other capitals too."
+_ENDED = "The input ended, so the rest stays as it was."
+
+
+class _Unanswered(Exception):
+    """The input ended where it was asked whether a place is changed, which nobody left as it is."""
 
 
 def add_words(parser: Parser) -> None:
@@ -163,11 +168,14 @@ def _changed(
     def report(fault: NotKept) -> None:
         console.say(not_kept(fault))
 
-    count = Count(further.wanted)
+    count, said = Count(further.wanted), list[str]()
     changed = further.changed(found, choice, report)
-    for lines in count.lines(changed, console.columns):
-        console.show(*lines)
-    console.say(*count.sentences(session.last_version))
+    try:
+        for lines in count.lines(changed, console.columns):
+            console.show(*lines)
+    except _Unanswered:
+        said.append(_ENDED)
+    console.say(*count.sentences(session.last_version), *said)
     return Status.REFUSED if count.refused else Status.DONE
 
 
@@ -191,12 +199,14 @@ def _asked_at_prompt(ask_person: Callable[..., Any]) -> str:
     """
     try:
         return str(ask_person(QUESTION, SHORT_QUESTION, answered))
-    except (GivenUp, Ended):
+    except GivenUp:
         return STOP
+    except Ended as ended:
+        raise _Unanswered from ended
 
 
 def _asked(console: Console) -> str:
-    """The answer to whether a place is changed; the end of the input is to stop."""
+    """The answer to whether a place is changed."""
     while True:
         console.say(QUESTION)
         with _lines(console) as lines:
@@ -205,7 +215,7 @@ def _asked(console: Console) -> str:
             except GivenUp as given_up:
                 raise Interrupted(signal.SIGINT) from given_up
         if line is None:
-            return STOP
+            raise _Unanswered
         with suppress(InvalidInput):
             return answered(line.decode(errors="replace"))
 
