@@ -26,6 +26,7 @@ from braildesk.desk.change_all import (
     proposals,
 )
 from braildesk.desk.change_note import Became, ChangeNote, NotedPlace
+from braildesk.desk.changed_so_far import left_open
 from braildesk.desk.drafts import Drafts
 from braildesk.desk.ranges import ParagraphRange
 from braildesk.desk.tables import FOLDER
@@ -331,6 +332,37 @@ def killed(book: Path, name: str, *words: str, at: int = 2, given: str = "") -> 
     )
     assert ran.status == -signal.SIGKILL
     once_free(book).close()
+
+
+def test_what_was_cut_short_stays_noted_while_fewer_of_its_places_are_changed(
+    tides: Path, sit: Sit
+) -> None:
+    killed(tides, "change-all", "tide", "tides")
+    assert changed(tides, "tide", "tides", "--words").status == 0
+    sat = sit(tides)
+    assert sat.state.question and " 4 of 5 places are" in sat.state.question.sentence
+    sat.desk.close()
+    assert changed(tides, "tide", "tides").status == 0
+    rest = ["tidess of tides", "a    b"]
+    assert prints(tides) == ["The tides", "a tides and tides", *rest]
+    assert Drafts(tides).changes() == ()
+
+
+def test_what_is_all_done_takes_nothing_away_that_is_noted_of_other_places(
+    tides: Path,
+) -> None:
+    drafts = Drafts(tides)
+    for became, number, ranges in (
+        (Became.CHANGED, 1, (ParagraphRange(),)),
+        (Became.OPEN, 2, (ParagraphRange(2, 3),)),
+    ):
+        length = 8 if number == 1 else 15
+        place = NotedPlace(number, length, 4 if number == 1 else 2, "tide", became)
+        its = ChangeNote("tide", "x", False, False, 1, (place,), ranges)
+        drafts.begin_change(its)
+    with Session(tides) as session:
+        assert [note for note, _ in left_open(session, drafts)] == [its]
+    assert drafts.changes() == (its,)
 
 
 @pytest.mark.parametrize("name", ["change-all", "talk"])

@@ -2,10 +2,14 @@
 
 from dataclasses import dataclass
 from enum import Enum
+from typing import TYPE_CHECKING
 
 from braildesk.desk.ranges import ParagraphRange
 from braildesk.desk.record import NotSuch, Record
 from braildesk.protocol.value import Value
+
+if TYPE_CHECKING:
+    from braildesk.desk.change_all import Replacement
 
 #: The ranges of all paragraphs.
 WHOLE = (ParagraphRange(),)
@@ -45,10 +49,18 @@ class ChangeNote(Value):
     places: tuple[NotedPlace, ...]
     ranges: tuple[ParagraphRange, ...] = WHOLE
 
-    def is_of(self, old: str, new: str, ranges: tuple[ParagraphRange, ...]) -> bool:
-        """Whether it is of these words, in no more than these ranges."""
-        is_within = ranges in (WHOLE, self.ranges)
-        return is_within and (self.old, self.new) == (old, new)
+    def is_of(self, wanted: "ChangeNote | Replacement") -> bool:
+        """Whether it is of these words, wherever they were looked for, and whatever their form."""
+        return (self.old, self.new) == (wanted.old, wanted.new)
+
+    def is_within(self, wanted: "ChangeNote | Replacement") -> bool:
+        """Whether all places of it are among those where words are looked for."""
+        return (
+            self.is_of(wanted)
+            and wanted.ranges in (WHOLE, self.ranges)
+            and (self.is_of_words or not wanted.is_of_words)
+            and (wanted.is_of_any_case or not self.is_of_any_case)
+        )
 
     def values(self) -> dict[str, object]:
         """What is kept of it as JSON."""

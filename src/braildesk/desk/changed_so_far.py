@@ -60,7 +60,7 @@ def left_open(session: Session, drafts: Drafts) -> list[tuple[ChangeNote, Places
         is_seen = len(places) == len(note.places)
         if is_seen and not any(became is Became.OPEN for _, became in places):
             with suppress(NotKept):
-                drafts.end_change(note.old, note.new, note.ranges)
+                drafts.drop_change(note)
         else:
             found.append((note, places))
     return found
@@ -90,7 +90,7 @@ class Further:
         self.notes = [
             (note, places)
             for note, places in _noted_now(session, drafts)
-            if note.is_of(wanted.old, wanted.new, note.ranges)
+            if note.is_of(wanted)
         ]
         #: The places that were changed or left before.
         self.answered: PlacesNow = []
@@ -124,7 +124,7 @@ class Further:
         yield from map(Passed, self._that(Became.LEFT))
         yield from change_proposed(self._session, found, wanted.by, is_wanted)
         try:
-            self._drafts.end_change(wanted.old, wanted.new, wanted.ranges)
+            self._drafts.end_change(wanted)
         except NotKept as fault:
             report(fault)
 

@@ -12,10 +12,10 @@ from contextlib import suppress
 from dataclasses import asdict, dataclass
 from enum import Enum
 from pathlib import Path
-from typing import TypeVar
+from typing import TYPE_CHECKING, TypeVar
 
 from braildesk.desk import Problem
-from braildesk.desk.change_note import WHOLE, ChangeNote, change_note_in
+from braildesk.desk.change_note import ChangeNote, change_note_in
 from braildesk.desk.draft import Draft, Unread, draft_in, unread_in, written
 from braildesk.desk.identity import Identity, identity_of
 from braildesk.desk.import_note import ImportNote, Pairs, note_in, pairs_in, values_of
@@ -29,9 +29,11 @@ from braildesk.desk.own_folder import (
     opened,
     state_folder,
 )
-from braildesk.desk.ranges import ParagraphRange
 from braildesk.desk.record import NotSuch, Record
 from braildesk.protocol.value import Value
+
+if TYPE_CHECKING:
+    from braildesk.desk.change_all import Replacement
 
 try:
     # which is loaded in less time than what has all digests, as the library's own random does it
@@ -264,20 +266,23 @@ class Drafts:
             return False
 
     def begin_change(self, note: ChangeNote) -> None:
-        """Notes words before the first place is changed, in place of what was noted of them.
+        """Notes words before the first place is changed, in place of what was noted of the same places.
 
         They don't wait any more then, as they were typed.
         """
-        others = self._other_changes(note.old, note.new, note.ranges)
-        self._note_changes((note, *others))
+        self._note_changes((note, *self._changes_beside(note)))
         if self.words() == (note.old, note.new):
             self.keep_words("", "")
 
-    def end_change(
-        self, old: str, new: str, ranges: tuple[ParagraphRange, ...] = WHOLE
-    ) -> None:
-        """Takes away what is noted of words: all is done, or nobody goes on with it."""
-        others = self._other_changes(old, new, ranges)
+    def end_change(self, its: "ChangeNote | Replacement") -> None:
+        """Takes away what is noted of the places of words: all are done, or nobody goes on with them."""
+        others = self._changes_beside(its)
+        if len(others) < len(self.changes()):
+            self._note_changes(others)
+
+    def drop_change(self, note: ChangeNote) -> None:
+        """Takes away what is noted of words whose places are all done, and nothing else."""
+        others = tuple(each for each in self.changes() if each != note)
         if len(others) < len(self.changes()):
             self._note_changes(others)
 
@@ -473,11 +478,11 @@ class Drafts:
         else:
             self._remove(Begun.IMPORTS)
 
-    def _other_changes(
-        self, old: str, new: str, ranges: tuple[ParagraphRange, ...]
+    def _changes_beside(
+        self, its: "ChangeNote | Replacement"
     ) -> tuple[ChangeNote, ...]:
-        notes = self.changes()
-        return tuple(each for each in notes if not each.is_of(old, new, ranges))
+        """What is noted of places that aren't among those of some words."""
+        return tuple(each for each in self.changes() if not each.is_within(its))
 
     def _note_changes(self, notes: tuple[ChangeNote, ...]) -> None:
         if notes:

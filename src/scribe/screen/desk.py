@@ -850,8 +850,7 @@ class Desk:
 
     def _left_out(self, state: State, action: LeaveImport | LeaveChange) -> State:
         if isinstance(action, LeaveChange):
-            its = action.wanted
-            self.drafts.end_change(its.old, its.new, its.ranges)
+            self.drafts.end_change(action.wanted)
             return state.saying(STAY)
         self.drafts.end_import(action.note)
         said = f"The rest of {action.note.name} is left out. What is in the book stays there."
@@ -968,7 +967,7 @@ class Desk:
     def _end_change(self, wanted: Replacement) -> None:
         """Takes away what is noted of words that were being changed, if anything is."""
         with suppress(NotKept):
-            self.drafts.end_change(wanted.old, wanted.new, wanted.ranges)
+            self.drafts.end_change(wanted)
 
     def _with_table(self, state: State, name: str) -> State:
         """Puts an installed table into the book if it has none of that name, then gives it."""

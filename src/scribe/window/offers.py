@@ -96,7 +96,7 @@ class Offers:
         if answer == 0:
             self._changing.go_on(wanted_by(note, desk.book.by))
         elif answer == 1:
-            desk.drafts.end_change(note.old, note.new, note.ranges)
+            desk.drafts.end_change(note)
             desk.say(STAY)
         desk.say_too(aside)
 
