@@ -32,7 +32,7 @@ from braildesk.desk.ranges import ParagraphRange
 from braildesk.desk.tables import FOLDER
 from braildesk.text.spans import Span
 from scribe.cli import run_words
-from scribe.words.change_all import cut_short, proposal_lines
+from scribe.words.change_all import cut_short, proposal_lines, ranges_named
 from scribe.words.console import Console
 from scribe.words.status import Interrupted
 
@@ -417,6 +417,20 @@ def test_thousands_of_places_are_counted_as_other_things_are() -> None:
     assert cut_short(note, became) == (
         "Changing “tide” to “sea” was cut short: 1,034 of 1,035 places are changed."
     )
+
+
+@pytest.mark.parametrize(
+    "ends, named",
+    [
+        ([(3, 3)], "paragraph 3"),
+        ([(3, 9), (12, 12)], "paragraphs 3 to 9 and 12"),
+        ([(None, 2), (4, 4), (6, None)], "paragraphs up to 2, 4 and from 6 on"),
+    ],
+)
+def test_ranges_of_paragraphs_are_named(
+    ends: list[tuple[int | None, int | None]], named: str
+) -> None:
+    assert ranges_named([ParagraphRange(*each) for each in ends]) == named
 
 
 @pytest.mark.parametrize("how", ["", "--ask", "talk"])

@@ -14,6 +14,7 @@ from braildesk.desk.draft import Aim, Draft
 from braildesk.desk.drafts import Drafts
 from braildesk.desk.layout import PageSize
 from braildesk.desk.own_folder import OwnFolder
+from braildesk.desk.ranges import ParagraphRange
 from braildesk.pipe import Pipe
 
 from scribe.screen import whole_book
@@ -712,6 +713,32 @@ def test_a_change_of_all_places_that_was_killed_is_asked_about_until_it_is_done_
     Drafts(tides).begin_change(note)
     sat = sit(tides)
     assert sat.state.question is None and Drafts(tides).changes() == ()
+
+
+def test_the_same_words_go_on_in_the_form_and_the_paragraphs_of_what_was_cut_short(
+    tides: Path, sit: Sit
+) -> None:
+    places = (NotedPlace(1, 8, 4, "tide", Became.OPEN),)
+    ranges = (ParagraphRange(1, 1),)
+    note = ChangeNote("tide", "tides", True, True, 1, places, ranges)
+    Drafts(tides).begin_change(note)
+    sat = sit(tides)
+    sat.press("l")
+    asked(sat, "tide", "tides")
+    assert sat.state.message == "The change that was cut short goes on."
+    assert sat.state.pages and sat.state.pages.title == (
+        "1 place of “tide”, as whole words, whatever the capitals, in paragraph 1, to be “tides”."
+    )
+    # what a key chooses there holds
+    sat.press("w")
+    assert sat.state.pages.title == (
+        "1 place of “tide”, whatever the capitals, in paragraph 1, to be “tides”."
+    )
+    assert sat.state.message == ""
+    sat.press("a", "escape")
+    sat.desk.close()
+    assert prints(tides) == ["The tides", TIDES]
+    assert Drafts(tides).changes() == ()
 
 
 @pytest.mark.parametrize(

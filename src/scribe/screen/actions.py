@@ -105,8 +105,10 @@ class FindPlaces:
     """Looks at the places where words stand that others may come in place of."""
 
     wanted: Replacement
-    #: The places of another list of these words that were changed or left.
-    answered: tuple[Place, ...] = ()
+    #: The places of another list of these words that were changed or left; none is known before one.
+    answered: tuple[Place, ...] | None = None
+    #: What is said of them.
+    said: str = ""
 
 
 @dataclass(frozen=True)

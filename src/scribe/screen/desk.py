@@ -936,11 +936,9 @@ class Desk:
         """Does what concerns the whole book, or opens it again if the session is lost meanwhile."""
         if isinstance(action, ChangePlaces) and action.nth is None:
             tell = self._noting(state, action, tell)
-        elif isinstance(action, FindPlaces) and not action.answered:
-            answered = whole_book.answered_before(
-                self._session, self.drafts, action.wanted
-            )
-            action = replace(action, answered=answered)
+        elif isinstance(action, FindPlaces) and action.answered is None:
+            wanted = action.wanted
+            action = whole_book.going_on(self._session, self.drafts, wanted)
         try:
             return whole_book.done(self._session, state, action, tell)
         except Lost as lost:

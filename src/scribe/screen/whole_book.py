@@ -17,8 +17,8 @@ from braildesk.desk.change_all import (
     moved_by,
     proposals,
 )
-from braildesk.desk.change_note import Became, ChangeNote
-from braildesk.desk.changed_so_far import Further, note_of, places_now
+from braildesk.desk.change_note import WHOLE, Became, ChangeNote
+from braildesk.desk.changed_so_far import Further, note_of, places_now, wanted_by
 from braildesk.desk.drafts import Drafts
 from braildesk.desk.volume_plan import (
     as_they_are,
@@ -53,6 +53,7 @@ from scribe.words.change_all import (
     Count,
     nowhere,
     proposal_lines,
+    ranges_named,
 )
 from scribe.words.deeds import Deed
 from scribe.words.paragraph import counted, quoted
@@ -63,6 +64,7 @@ from scribe.words.volumes import faults, summary, to_set, volume_lines, was_set
 _MANY = 250_000
 # so many commands are done in a moment
 _FEW = 20
+_FURTHER = "The change that was cut short goes on."
 _OF_CAPITALS = "These have other capitals, which the new words take."
 _NOT_A_NUMBER = "That is no number of pages, such as 80."
 _OF_PAGES = (
@@ -169,7 +171,7 @@ def done(session: Session, state: State, action: OfWholeBook, tell: Report) -> S
     """The state after something was looked for in the whole book, or was changed in it."""
     match action:
         case FindPlaces():
-            return _found(session, state, action.wanted, action.answered)
+            return _found(session, state, action)
         case ChangePlaces(nth=None):
             return _all_changed(session, state, action, tell)
         case ChangePlaces(nth=nth):
@@ -180,11 +182,10 @@ def done(session: Session, state: State, action: OfWholeBook, tell: Report) -> S
             return _volumes_set(session, state, action, tell)
 
 
-def _found(
-    session: Session, state: State, wanted: Replacement, answered: Sequence[Place]
-) -> State:
+def _found(session: Session, state: State, action: FindPlaces) -> State:
     """The list of the places where words stand, also with other capitals if there are no others."""
-    found, said = proposals(session, wanted, _came(answered)), ""
+    wanted, answered, said = action.wanted, action.answered or (), action.said
+    found = proposals(session, wanted, _came(answered))
     if not (found or answered or wanted.is_of_any_case or state.pages):
         found = proposals(session, replace(wanted, is_of_any_case=True))
         if found:
@@ -216,11 +217,17 @@ def noted(offer: ChangePlaces, version: int) -> ChangeNote:
     return note_of(offer.wanted, places, version)
 
 
-def answered_before(
-    session: Session, drafts: Drafts, wanted: Replacement
-) -> tuple[Place, ...]:
-    """The places of words that were changed or left before the change of all was cut short."""
-    return tuple(_places_of(Further(session, drafts, wanted).answered))
+def going_on(session: Session, drafts: Drafts, wanted: Replacement) -> FindPlaces:
+    """Looks for words from where their change was cut short, in that form and those paragraphs."""
+    further = Further(session, drafts, wanted)
+    others = [wanted_by(note, wanted.by) for note, _ in further.notes]
+    if not others:
+        return FindPlaces(wanted, ())
+    said = ""
+    if wanted not in others:
+        further.wanted, said = others[0], _FURTHER
+    answered = tuple(_places_of(further.answered))
+    return FindPlaces(further.wanted, answered, said)
 
 
 def _places_of(found: Iterable[tuple[Proposal, Became]]) -> list[Place]:
@@ -276,6 +283,7 @@ def _listed(state: State, offer: ChangePlaces, nth: int) -> State:
     new = f"to be {quoted(wanted.new)}" if wanted.new else "to be taken out"
     how = ", as whole words" if wanted.is_of_words else ""
     how += ", whatever the capitals" if wanted.is_of_any_case else ""
+    how += f", in {ranges_named(wanted.ranges)}" if wanted.ranges != WHOLE else ""
     title = f"{counted(count, 'place')} of {quoted(wanted.old)}{how}, {new}."
     pages = Pages(title, tuple(lines), targets=tuple(targets), offer=offer)
     return replace(state, pages=pager.at_line(pages, state.size, fronts[nth]))

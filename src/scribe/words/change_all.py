@@ -215,6 +215,21 @@ def _as_words(wanted: Replacement) -> str:
     return " as whole words" if wanted.is_of_words else ""
 
 
+def ranges_named(ranges: Sequence[ParagraphRange]) -> str:
+    """Some ranges of paragraphs, as in “paragraphs 3 to 9 and 12”."""
+    names = []
+    for its in ranges:
+        name = f"{its.first} to {its.last}"
+        if its.first is None:
+            name = f"up to {its.last}"
+        elif its.last is None:
+            name = f"from {its.first} on"
+        names.append(str(its.first) if its.first == its.last else name)
+    *others, last = names
+    joined = f"{', '.join(others)} and {last}" if others else last
+    return f"paragraph{'' if joined.isdigit() else 's'} {joined}"
+
+
 def nowhere(session: Session, wanted: Replacement, offer: str) -> str:
     """What is said of words where none would be changed in what is looked through."""
     old = quoted(wanted.old)
