@@ -183,14 +183,26 @@ def test_places_where_the_new_words_stand_already_are_not_counted(moons: Path) -
     assert prints(moons)[:2] == ["The mooon and the Mooon.", "A Mooonlit mooon"]
 
 
-@pytest.mark.parametrize("how", ["--dry-run", "--ask", "--words"])
-def test_new_words_that_stand_everywhere_already(moons: Path, how: str) -> None:
+@pytest.mark.parametrize(
+    "how, where",
+    [
+        ("--dry-run", ""),
+        ("--ask", ""),
+        ("--words", " as whole words"),
+        ("--in=4", " in these paragraphs"),
+    ],
+)
+def test_new_words_that_stand_everywhere_already(
+    moons: Path, how: str, where: str
+) -> None:
     with Session(moons) as session:
         session.add_paragraph("end", "en", "Tides and Tides")
+        if where:
+            session.add_paragraph("end", "en", "ebbtides")
     assert changed(moons, "tides", "Tides", "--case", how) == Ran(
         2,
         "",
-        "The new words are the same wherever “tides” stands. Nothing was changed.\n",
+        f"The new words are the same wherever “tides” stands{where}. Nothing was changed.\n",
     )
 
 
@@ -332,6 +344,45 @@ def killed(book: Path, name: str, *words: str, at: int = 2, given: str = "") -> 
     )
     assert ran.status == -signal.SIGKILL
     once_free(book).close()
+
+
+@pytest.mark.parametrize(
+    "words, status, said",
+    [
+        (("--in", "4"), 2, "“tide” isn't in these paragraphs. Nothing was changed."),
+        (
+            ("--in", "1", "--words"),
+            2,
+            "“tide” isn't in these paragraphs as whole words. Nothing was changed.",
+        ),
+        (
+            ("--in", "1"),
+            0,
+            "There are no more places to change in these paragraphs.",
+        ),
+    ],
+)
+def test_places_that_are_left_are_not_said_to_be_none_where_fewer_are_looked_for(
+    tides: Path, words: tuple[str, ...], status: int, said: str
+) -> None:
+    killed(tides, "change-all", "tide", "tides")
+    cut = "Changing “tide” to “tides” was cut short: 2 of 5 places are changed already."
+    assert changed(tides, "tide", "tides", *words) == Ran(
+        status, "", f"{cut}\n{said}\n"
+    )
+    (note,) = Drafts(tides).changes()
+    assert len(note.places) == 5
+
+
+def test_other_capitals_that_are_left_are_not_said_to_be_none(tides: Path) -> None:
+    with Session(tides) as session:
+        session.correct(3, 0, 13, "Tide")
+    killed(tides, "change-all", "tide", "tides", "--case", "--in", "1,3", at=1)
+    ran = changed(tides, "tide", "tides", "--in", "1,3")
+    assert (ran.status, ran.said.splitlines()[1]) == (
+        0,
+        "There are no more places to change in these paragraphs with these capitals.",
+    )
 
 
 def test_what_was_cut_short_stays_noted_while_fewer_of_its_places_are_changed(

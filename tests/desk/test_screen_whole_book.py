@@ -132,7 +132,7 @@ def test_places_are_changed_and_left_one_by_one(tides: Path, sit: Sit) -> None:
     version = sat.state.version
     sat.press("y", "a")
     assert sat.state.version == version
-    assert sat.state.message == "There are no more places to change."
+    assert sat.state.message == "There are no more places to change in this list."
     sat.press("escape", "u")
     assert sat.state.message == "Taken back: paragraph 2 was corrected."
     sat.desk.close()
@@ -325,6 +325,24 @@ def test_what_was_put_in_is_no_place_of_other_lists_of_the_same_words(
     sat.desk.close()
     tides_come = TIDES.replace("tide", "tides").replace("Tide", "Tides")
     assert prints(tides) == ["The tides", tides_come.replace("comes", "comes in")]
+
+
+def test_it_is_said_as_what_no_place_is_left_to_change(tides: Path, sit: Sit) -> None:
+    sat = sit(tides)
+    asked(sat, "tide", "tides")
+    sat.press("down", "y", "y", "w")
+    assert sat.state.message == "There are no more places to change as whole words."
+    # the list is as it was, with the place in a longer word
+    assert sat.state.pages and sat.state.pages.title.startswith(
+        "3 places of “tide”, to"
+    )
+    sat.press("escape")
+    asked(sat, "THE END", "The rest")
+    sat.press("y", "c")
+    assert sat.state.pages and sat.state.pages.title.startswith("1 place")
+    assert (
+        sat.state.message == "There are no more places to change with these capitals."
+    )
 
 
 def test_words_that_stand_nowhere_are_said_and_those_with_other_capitals_are_shown(

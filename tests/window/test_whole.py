@@ -6,6 +6,7 @@ import pytest
 from PyQt6.QtGui import QFont
 
 from braildesk import Style, requests
+from braildesk.desk.change_note import Became, ChangeNote, NotedPlace
 from braildesk.desk.layout import PageSize
 from braildesk.text.spans import Span
 
@@ -44,6 +45,23 @@ def test_words_are_changed_everywhere_and_that_is_taken_back(
     desk.act("take_back")
     assert prints_of(desk)[2] == "Twice a day the sea comes up."
     assert desk.window.message.text == "Taken back: “a” was replaced in 1 place."
+
+
+def test_places_that_are_left_are_not_said_to_be_none_where_only_words_are_looked_for(
+    desk: Desk, given: Answers
+) -> None:
+    places = (
+        NotedPlace(1, 8, 5, "oo", Became.CHANGED),
+        NotedPlace(2, 20, 5, "o", Became.OPEN),
+    )
+    note = ChangeNote("o", "oo", False, False, 1, places)
+    desk.drafts.begin_change(note)
+    given["fields"] = ["o", "oo"], [True, False]
+    desk.act("change_all")
+    assert desk.window.message.text == (
+        "“o” isn't in the book as whole words. Nothing was changed."
+    )
+    assert desk.drafts.changes() == (note,)
 
 
 def test_each_place_is_asked_about_and_the_rest_stay(

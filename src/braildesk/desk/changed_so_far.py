@@ -14,6 +14,7 @@ from braildesk.desk.change_all import (
     Proposal,
     Replacement,
     change_proposed,
+    is_there,
     proposals,
 )
 from braildesk.desk.change_note import Became, ChangeNote, NotedPlace
@@ -101,6 +102,12 @@ class Further:
                 for its, became in places
                 if became is not Became.OPEN and (its.paragraph, its.place) not in known
             ]
+
+    @property
+    def is_done(self) -> bool:
+        """Whether the words were changed or left before, if no place of them is found any more."""
+        is_all = all(note.is_within(self.wanted) for note, _ in self.notes)
+        return bool(self.answered) and (is_all or is_there(self._session, self.wanted))
 
     def found(self) -> list[Proposal]:
         """The places that are to be changed."""

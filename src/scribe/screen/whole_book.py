@@ -47,10 +47,11 @@ from scribe.screen.in_hand import touched
 from scribe.screen.lists import at_chosen
 from scribe.screen.state import Pages, State, Target
 from scribe.words.change_all import (
-    NONE_LEFT,
+    NONE_LISTED,
     REST_STAYS,
     STAY,
     Count,
+    none_left,
     nowhere,
     proposal_lines,
     ranges_named,
@@ -119,7 +120,7 @@ def _of_places(
         case "a" if offer.open_places:
             return state, offer
         case "a":
-            return state.saying(NONE_LEFT), None
+            return state.saying(NONE_LISTED), None
         case "w":
             other = not wanted.is_of_words
             wanted = replace(wanted, is_of_words=other)
@@ -191,7 +192,9 @@ def _found(session: Session, state: State, action: FindPlaces) -> State:
         if found:
             wanted, said = replace(wanted, is_of_any_case=True), _OF_CAPITALS
     if not found:
-        why = NONE_LEFT if answered else nowhere(session, wanted, ".")
+        offer = state.pages.offer if state.pages else None
+        others = [offer.wanted] if isinstance(offer, ChangePlaces) else []
+        why = none_left(wanted, others) if answered else nowhere(session, wanted, ".")
         return state.saying(why)
     offer = _offer_of(wanted, found, answered)
     return _listed_from_open(state, offer).saying(said)
@@ -205,7 +208,7 @@ def listed_anew(session: Session, state: State, offer: ChangePlaces) -> State:
     answered = [each for each in places if not each.is_open]
     found = proposals(session, offer.wanted, _came(answered))
     if not found:
-        return state.saying_too(NONE_LEFT)
+        return state.saying_too(none_left(offer.wanted))
     offer = _offer_of(offer.wanted, found, answered)
     return _listed_from_open(state, offer).saying_too(_ANEW)
 

@@ -16,9 +16,9 @@ from scribe.window.dialogs import IsStopped, Say
 from scribe.window.finding import Finding
 from scribe.words.drafts import not_kept
 from scribe.words.change_all import (
-    NONE_LEFT,
     cut_short,
     how_many,
+    none_left,
     nowhere,
     proposal_lines,
 )
@@ -134,13 +134,14 @@ class Changing:
             session = desk.book.session
             further = Further(session, desk.drafts, wanted)
             found = further.found()
-            if not found and further.answered:
-                # what is noted of places that are all done is taken away
-                left_open(session, desk.drafts)
-                raise Stop(f"{NONE_LEFT} {_NOTHING}")
-            if not found:
+            if found:
+                return further, found
+            # what is noted of places that are all done is taken away
+            left_open(session, desk.drafts)
+            if not further.is_done:
                 raise Stop(nowhere(session, wanted, ""))
-            return further, found
+            notes = (note for note, _ in further.notes)
+            raise Stop(f"{none_left(wanted, notes)} {_NOTHING}")
 
         return dialogs.long(desk.window, desk.work, _TITLE, look)
 

@@ -12,7 +12,7 @@ from braildesk.desk.change_all import (
     Replacement,
     is_there,
 )
-from braildesk.desk.change_note import Became, ChangeNote
+from braildesk.desk.change_note import WHOLE, Became, ChangeNote
 from braildesk.desk.find import Variant, alike, find_words, tallied
 from braildesk.desk.ranges import ParagraphRange
 from braildesk.text.excerpt import excerpt_lines
@@ -30,7 +30,7 @@ QUESTION = "Change it? Type yes, no, all or stop."
 SHORT_QUESTION = "yes, no, all or stop"
 REST_STAYS = "The rest stays as it was."
 STAY = "The other places stay as they are."
-NONE_LEFT = "There are no more places to change."
+NONE_LISTED = "There are no more places to change in this list."
 
 
 @dataclass
@@ -211,8 +211,10 @@ def _places_of(numbers: Sequence[int], word: str) -> str:
     return f"{counted(len(numbers), 'place')} of {counted(len({*numbers}), word)}"
 
 
-def _as_words(wanted: Replacement) -> str:
-    return " as whole words" if wanted.is_of_words else ""
+def _within(wanted: Replacement) -> str:
+    """Where words are looked for, and as what, if not everywhere and as they come."""
+    where = "" if wanted.ranges == WHOLE else " in these paragraphs"
+    return f"{where} as whole words" if wanted.is_of_words else where
 
 
 def ranges_named(ranges: Sequence[ParagraphRange]) -> str:
@@ -230,17 +232,26 @@ def ranges_named(ranges: Sequence[ParagraphRange]) -> str:
     return f"paragraph{'' if joined.isdigit() else 's'} {joined}"
 
 
+def none_left(
+    wanted: Replacement, others: Iterable[Replacement | ChangeNote] = ()
+) -> str:
+    """What is said of words of which each place was changed or left, in whatever forms others were."""
+    how = _within(wanted)
+    if not wanted.is_of_any_case and any(each.is_of_any_case for each in others):
+        how += " with these capitals"
+    return f"There are no more places to change{how}."
+
+
 def nowhere(session: Session, wanted: Replacement, offer: str) -> str:
     """What is said of words where none would be changed in what is looked through."""
-    old = quoted(wanted.old)
+    old, within = quoted(wanted.old), _within(wanted)
     if is_there(session, wanted):
-        return f"The new words are the same wherever {old} stands. Nothing was changed."
-    if wanted.ranges != (ParagraphRange(),):
-        return (
-            f"{old} isn't in these paragraphs{_as_words(wanted)}. Nothing was changed."
-        )
-    if wanted.is_of_words:
-        return f"{old} isn't in the book{_as_words(wanted)}. Nothing was changed."
+        same = f"The new words are the same wherever {old} stands{within}."
+        return f"{same} Nothing was changed."
+    if wanted.ranges != WHOLE:
+        return f"{old} isn't{within}. Nothing was changed."
+    if within:
+        return f"{old} isn't in the book{within}. Nothing was changed."
     others = tallied(find_words(session, wanted.old, alike), wanted.old)
     how = offer if others.kinds == (Variant.CAPITALS,) else "."
     said = found_summary(wanted.old, tallied((), ""), others, how)

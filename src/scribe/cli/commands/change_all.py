@@ -20,7 +20,6 @@ from scribe.cli.parser import Parser, add_ranges, add_width, argument
 from scribe.prompt.conversation import Ended
 from scribe.prompt.typed_lines import GivenUp, Lines, PipedLines, TypedLines, are_typed
 from scribe.words.change_all import (
-    NONE_LEFT,
     QUESTION,
     SHORT_QUESTION,
     STOP,
@@ -28,6 +27,7 @@ from scribe.words.change_all import (
     Count,
     answered,
     cut_short,
+    none_left,
     nowhere,
     proposal_lines,
     stopped_after,
@@ -120,19 +120,26 @@ def answer(session: Session, arguments: Namespace, console: Console) -> Status:
         before += (became for _, became in further.answered)
         for note, places in further.notes:
             console.say(cut_short(note, [became for _, became in places], " already"))
-        if not found and before:
-            # what is noted of places that are all done is taken away
-            left_open(session, drafts)
-            console.say(NONE_LEFT)
-            return Status.DONE
         if not found:
-            raise Stop(nowhere(session, wanted, _OFFER))
+            return _nothing_found(session, drafts, further, console)
         if arguments.dry_run:
             return _shown(wanted, found, console)
         if not arguments.ask:
             _judge_seen(further, found)
         choice = _choice(arguments, found, console)
         return _changed(session, further, found, choice, console)
+
+
+def _nothing_found(
+    session: Session, drafts: Drafts, further: Further, console: Console
+) -> Status:
+    """Says that no place is left of words that were changed before, or why there is none."""
+    # what is noted of places that are all done is taken away
+    left_open(session, drafts)
+    if not further.is_done:
+        raise Stop(nowhere(session, further.wanted, _OFFER))
+    console.say(none_left(further.wanted, (note for note, _ in further.notes)))
+    return Status.DONE
 
 
 def _judge_seen(further: Further, found: list[Proposal]) -> None:
