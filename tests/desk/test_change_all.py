@@ -32,7 +32,12 @@ from braildesk.desk.ranges import ParagraphRange
 from braildesk.desk.tables import FOLDER
 from braildesk.text.spans import Span
 from scribe.cli import run_words
-from scribe.words.change_all import cut_short, proposal_lines, ranges_named
+from scribe.words.change_all import (
+    cut_short,
+    not_seen,
+    proposal_lines,
+    ranges_named,
+)
 from scribe.words.console import Console
 from scribe.words.status import Interrupted
 
@@ -437,6 +442,28 @@ def test_an_answer_ends_a_change_that_was_cut_short_and_the_end_of_the_input_doe
     assert Drafts(tides).changes() == ()
 
 
+@pytest.mark.parametrize(
+    "paragraphs, front",
+    [
+        ([], ""),
+        (
+            [2],
+            "Paragraph 2 was changed otherwise since, so it isn't seen which of its ",
+        ),
+        (
+            [2, 3],
+            "Paragraph 2 and 1 other were changed otherwise since, so it isn't seen",
+        ),
+        ([2, 3, 9], "Paragraph 2 and 2 others were changed otherwise since, so"),
+    ],
+)
+def test_paragraphs_of_which_it_is_not_seen_what_was_changed_are_said(
+    paragraphs: list[int], front: str
+) -> None:
+    said = not_seen(paragraphs)
+    assert said.startswith(front) and bool(said) is bool(paragraphs)
+
+
 def test_where_it_is_stopped_while_it_looks_no_place_is_said_to_be_all(
     tides: Path, monkeypatch: pytest.MonkeyPatch
 ) -> None:
@@ -533,15 +560,19 @@ def test_where_it_is_not_seen_what_was_changed_each_place_is_to_be_looked_at(
     # the print is as long as it was at first
     assert scribe("change", tides, "2", "and", "or", folder=tides.parent).status == 0
     said = "Changing “tide” to “tides” was cut short: at least 1 of 5 places is changed"
+    unseen = "Paragraph 2 was changed otherwise since, so it isn't seen which of its places are changed."
     sat = sit(tides)
     assert sat.state.question and sat.state.question.sentence.startswith(said)
+    sat.press("y")
+    assert sat.state.message == unseen
     sat.desk.close()
     assert changed(tides, "tide", "tides") == Ran(
         2,
         "",
-        f"{said} already.\nParagraph 2 was changed otherwise since, so it isn't seen which of its"
-        " places are changed. --ask shows each place. Nothing was changed.\n",
+        f"{said} already.\n{unseen} --ask shows each place. Nothing was changed.\n",
     )
+    ran = changed(tides, "tide", "tides", "--dry-run")
+    assert ran.said.splitlines()[:2] == [f"{said} already.", unseen]
     assert changed(tides, "tide", "tides", "--ask", given="no\nall\n").status == 0
     assert prints(tides)[:3] == ["The tides", "a tides or tides", "tidess of tides"]
     assert Drafts(tides).changes() == ()

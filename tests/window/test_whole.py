@@ -64,6 +64,21 @@ def test_places_that_are_left_are_not_said_to_be_none_where_only_words_are_looke
     assert desk.drafts.changes() == (note,)
 
 
+def test_paragraphs_of_which_it_is_not_seen_what_was_changed_are_said_before(
+    desk: Desk, given: Answers
+) -> None:
+    # the print was longer than it is by now
+    place = NotedPlace(2, 21, 5, "o", Became.OPEN)
+    desk.drafts.begin_change(ChangeNote("o", "oo", False, False, 1, (place,)))
+    given["fields"] = ["o", "oo"], [False, False]
+    given["choices"] = [2]
+    desk.act("change_all")
+    assert given["said"][0].startswith(
+        "Changing “o” to “oo” was cut short, and it isn't seen how far it came. Paragraph 2 was"
+        " changed otherwise since, so it isn't seen which of its places are changed. “o” would be"
+    )
+
+
 def test_each_place_is_asked_about_and_the_rest_stay(
     desk: Desk, given: Answers
 ) -> None:

@@ -109,6 +109,15 @@ class Further:
         is_all = all(note.is_within(self.wanted) for note, _ in self.notes)
         return bool(self.answered) and (is_all or is_there(self._session, self.wanted))
 
+    def unseen(self, found: Iterable[Proposal]) -> list[int]:
+        """The paragraphs of places of which it isn't seen whether they were changed before."""
+        unseen = set[int]()
+        for note, places in self.notes:
+            seen = {its.paragraph for its, _ in places}
+            unseen |= {each.paragraph for each in note.places} - seen
+        numbers = dict.fromkeys(each.paragraph for each in found)
+        return [number for number in numbers if number in unseen]
+
     def found(self) -> list[Proposal]:
         """The places that are to be changed."""
         left = {(its.paragraph, its.place) for its in self._that(Became.LEFT)}

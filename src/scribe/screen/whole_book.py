@@ -52,6 +52,7 @@ from scribe.words.change_all import (
     STAY,
     Count,
     none_left,
+    not_seen,
     nowhere,
     proposal_lines,
     ranges_named,
@@ -229,8 +230,9 @@ def going_on(session: Session, drafts: Drafts, wanted: Replacement) -> FindPlace
     said = ""
     if wanted not in others:
         further.wanted, said = others[0], _FURTHER
+    unseen = not_seen(further.unseen(further.found()))
     answered = tuple(_places_of(further.answered))
-    return FindPlaces(further.wanted, answered, said)
+    return FindPlaces(further.wanted, answered, f"{said} {unseen}".strip())
 
 
 def _places_of(found: Iterable[tuple[Proposal, Became]]) -> list[Place]:

@@ -19,6 +19,7 @@ from scribe.words.change_all import (
     cut_short,
     how_many,
     none_left,
+    not_seen,
     nowhere,
     proposal_lines,
 )
@@ -153,7 +154,8 @@ class Changing:
             cut_short(note, [became for _, became in places], " already")
             for note, places in further.notes
         ]
-        said = " ".join([*before, how_many(further.wanted, found)])
+        unseen = filter(None, [not_seen(further.unseen(found))])
+        said = " ".join([*before, *unseen, how_many(further.wanted, found)])
         asked = f"{said} The first one:\n\n{front}"
         answer = dialogs.choice(window, _TITLE, asked, _OF_ALL)
         if answer == 2:

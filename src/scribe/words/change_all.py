@@ -169,6 +169,18 @@ def cut_short(note: ChangeNote, now: Sequence[Became], already: str = "") -> str
     )
 
 
+def not_seen(paragraphs: Sequence[int]) -> str:
+    """That it isn't seen of places whether they were changed before; nothing of no paragraphs."""
+    if not paragraphs:
+        return ""
+    first, others = f"Paragraph {paragraphs[0]}", len(paragraphs) - 1
+    if not others:
+        what, its = f"{first} was", "its"
+    else:
+        what, its = f"{first} and {counted(others, 'other')} were", "their"
+    return f"{what} changed otherwise since, so it isn't seen which of {its} places are changed."
+
+
 def proposal_lines(
     found: Proposal, nth: int, count: int, width: int, what: str = ""
 ) -> list[str]:

@@ -28,6 +28,7 @@ from scribe.words.change_all import (
     answered,
     cut_short,
     none_left,
+    not_seen,
     nowhere,
     proposal_lines,
     stopped_after,
@@ -122,10 +123,12 @@ def answer(session: Session, arguments: Namespace, console: Console) -> Status:
             console.say(cut_short(note, [became for _, became in places], " already"))
         if not found:
             return _nothing_found(session, drafts, further, console)
+        unseen = not_seen(further.unseen(found))
+        if unseen and not (arguments.ask or arguments.dry_run):
+            raise Stop(f"{unseen} --ask shows each place. Nothing was changed.")
+        console.say(*filter(None, [unseen]))
         if arguments.dry_run:
             return _shown(wanted, found, console)
-        if not arguments.ask:
-            _judge_seen(further, found)
         choice = _choice(arguments, found, console)
         return _changed(session, further, found, choice, console)
 
@@ -140,19 +143,6 @@ def _nothing_found(
         raise Stop(nowhere(session, further.wanted, _OFFER))
     console.say(none_left(further.wanted, (note for note, _ in further.notes)))
     return Status.DONE
-
-
-def _judge_seen(further: Further, found: list[Proposal]) -> None:
-    """Refuses to change a place that may have been changed before."""
-    for note, places in further.notes:
-        seen = {its.paragraph for its, _ in places}
-        unseen = {each.paragraph for each in note.places} - seen
-        for each in found:
-            if each.paragraph in unseen:
-                raise Stop(
-                    f"Paragraph {each.paragraph} was changed otherwise since, so it isn't seen which"
-                    " of its places are changed. --ask shows each place. Nothing was changed."
-                )
 
 
 def _shown(wanted: Replacement, found: list[Proposal], console: Console) -> Status:
