@@ -13,7 +13,7 @@ from braildesk.desk.change_note import Became, ChangeNote, NotedPlace
 from braildesk.desk.draft import Aim, Draft
 from braildesk.desk.drafts import Drafts
 from braildesk.desk.layout import PageSize
-from braildesk.desk.own_folder import OwnFolder
+from braildesk.desk.own_folder import OwnFolder, Unfit, state_folder
 from braildesk.desk.ranges import ParagraphRange
 from braildesk.pipe import Pipe
 
@@ -757,6 +757,27 @@ def test_the_same_words_go_on_in_the_form_and_the_paragraphs_of_what_was_cut_sho
     sat.desk.close()
     assert prints(tides) == ["The tides", TIDES]
     assert Drafts(tides).changes() == ()
+
+
+def test_a_change_of_all_places_that_can_not_be_noted_is_made_and_that_is_said(
+    tides: Path, sit: Sit, monkeypatch: pytest.MonkeyPatch
+) -> None:
+    sat = sit(tides)
+    asked(sat, "tide", "flood")
+    write = OwnFolder.write
+
+    def refusing(folder: OwnFolder, name: str, data: bytes) -> None:
+        if name.endswith(".changes"):
+            raise Unfit("it has more than 4,194,304 bytes")
+        write(folder, name, data)
+
+    monkeypatch.setattr(OwnFolder, "write", refusing)
+    sat.press("a")
+    assert sat.state.pages and sat.state.pages.title == "Changed."
+    assert sat.state.message == (
+        f"How far the change of words comes can't be kept in {state_folder()}: it has more than"
+        " 4,194,304 bytes."
+    )
 
 
 @pytest.mark.parametrize(

@@ -8,6 +8,7 @@ from PyQt6.QtGui import QFont
 from braildesk import Style, requests
 from braildesk.desk.change_note import Became, ChangeNote, NotedPlace
 from braildesk.desk.layout import PageSize
+from braildesk.desk.own_folder import OwnFolder, Unfit, state_folder
 from braildesk.text.spans import Span
 
 from scribe.window import dialogs
@@ -45,6 +46,27 @@ def test_words_are_changed_everywhere_and_that_is_taken_back(
     desk.act("take_back")
     assert prints_of(desk)[2] == "Twice a day the sea comes up."
     assert desk.window.message.text == "Taken back: “a” was replaced in 1 place."
+
+
+def test_words_are_changed_everywhere_also_where_that_can_not_be_noted(
+    desk: Desk, given: Answers, monkeypatch: pytest.MonkeyPatch
+) -> None:
+    write = OwnFolder.write
+
+    def refusing(folder: OwnFolder, name: str, data: bytes) -> None:
+        if name.endswith(".changes"):
+            raise Unfit("it has more than 4,194,304 bytes")
+        write(folder, name, data)
+
+    monkeypatch.setattr(OwnFolder, "write", refusing)
+    given["fields"] = ["a", "one"], [True, False]
+    given["choices"] = [0]
+    desk.act("change_all")
+    assert desk.window.message.text == (
+        "“a” was replaced by “one” in 1 place of 1 paragraph. The book is at version 6. How far"
+        f" the change of words comes can't be kept in {state_folder()}: it has more than 4,194,304"
+        " bytes."
+    )
 
 
 def test_places_that_are_left_are_not_said_to_be_none_where_only_words_are_looked_for(

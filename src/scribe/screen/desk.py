@@ -934,33 +934,41 @@ class Desk:
         self, state: State, action: OfWholeBook, tell: whole_book.Report
     ) -> State:
         """Does what concerns the whole book, or opens it again if the session is lost meanwhile."""
+        said = ""
         if isinstance(action, ChangePlaces) and action.nth is None:
-            tell = self._noting(state, action, tell)
+            said, tell = self._noting(state, action, tell)
         elif isinstance(action, FindPlaces) and action.answered is None:
             wanted = action.wanted
             action = whole_book.going_on(self._session, self.drafts, wanted)
         try:
-            return whole_book.done(self._session, state, action, tell)
+            found = whole_book.done(self._session, state, action, tell)
+            return found.saying_too(said)
         except Lost as lost:
             begun = state.version
             if lost.version != begun:
                 # what was done before would be taken back in the place of this
                 state = replace(state, deeds=())
-            return self._after_loss(state, lost, begun)
+            return self._after_loss(state, lost, begun).saying_too(said)
 
     def _noting(
         self, state: State, action: ChangePlaces, tell: whole_book.Report
-    ) -> whole_book.Report:
-        """Notes the places that are to be changed, until the last of them is done."""
-        with suppress(NotKept):
+    ) -> tuple[str, whole_book.Report]:
+        """Notes the places that are to be changed, until the last of them is done.
+
+        The result is what is in the way of that, and what tells how far the work has come.
+        """
+        fault = ""
+        try:
             self.drafts.begin_change(whole_book.noted(action, state.version))
+        except NotKept as not_noted:
+            fault = not_kept(not_noted)
 
         def told(done: int, count: int) -> None:
             tell(done, count)
             if done == count:
                 self._end_change(action.wanted)
 
-        return told
+        return fault, told
 
     def _end_change(self, wanted: Replacement) -> None:
         """Takes away what is noted of words that were being changed, if anything is."""

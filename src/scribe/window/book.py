@@ -37,6 +37,7 @@ from scribe.words import deeds, pagelook
 from scribe.words.aftermath import opened_again
 from scribe.words.change_all import REST_STAYS, Count
 from scribe.words.deeds import Deed, kept
+from scribe.words.drafts import not_kept
 from scribe.words.paragraph import counted, part_of, quoted
 from scribe.words.preview import Tables
 from scribe.words.status import Stop
@@ -393,7 +394,7 @@ class OpenBook:
         wanted = further.wanted
         count, lines, places = Count(wanted), [], iter(chosen.places)
         backs: list[Command[Any]] = []
-        stopped = []
+        said: list[str] = []
 
         def is_wanted(its: Proposal) -> bool:
             if not go_on(count.changed):
@@ -402,11 +403,13 @@ class OpenBook:
 
         begun = self._session.last_version
         try:
-            changed = _with_backs(further.changed(found, is_wanted), backs)
-            for its in count.lines(changed, width):
+            changed = further.changed(
+                found, is_wanted, lambda fault: said.append(not_kept(fault))
+            )
+            for its in count.lines(_with_backs(changed, backs), width):
                 lines += its
         except _StoppedHere:
-            stopped.append(REST_STAYS)
+            said.append(REST_STAYS)
         except Lost as lost:
             if lost.version != begun:
                 # what was done before would be taken back in the place of this
@@ -417,7 +420,7 @@ class OpenBook:
                 f"{quoted(wanted.old)} was replaced in {counted(len(backs), 'place')}"
             )
             self._deeds = (*self._deeds, Deed(what, tuple(backs)))
-        return [*count.sentences(self._session.last_version), *stopped], lines
+        return [*count.sentences(self._session.last_version), *said], lines
 
     def taken_back(self, report: Callable[[int, int], None]) -> Done:
         """Takes back what was done last in this window.
