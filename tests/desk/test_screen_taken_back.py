@@ -239,6 +239,19 @@ def test_a_mark_of_a_struck_paragraph_is_resolved_once_that_is_asked(
     assert sat.state.message == "Taken back: paragraph 1 was struck."
 
 
+def test_u_is_said_to_take_back_only_what_has_a_way_back(moon: Path, sit: Sit) -> None:
+    with Session(moon) as session:
+        session.add_mark(1, 5, 4, "really?")
+    sat = sit(moon)
+    sat.press("n", "s", "r", "y", "r", "y", "u")
+    none = "The book has no way back from this: mark {} was resolved."
+    assert sat.state.message == none.format(2)
+    sat.press("u")
+    assert sat.state.message == (
+        f"{none.format(1)} u again takes back that paragraph 1 was struck."
+    )
+
+
 def test_a_table_that_was_put_into_the_book_stays_there_which_is_said_before(
     moon: Path, sit: Sit
 ) -> None:

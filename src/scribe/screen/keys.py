@@ -282,7 +282,7 @@ def _take_back(state: State) -> Step:
     *earlier, deed = state.deeds
     if not deed.back:
         said = f"The book has no way back from this: {deed.what}."
-        if earlier:
+        if earlier and earlier[-1].back:
             said += f" u again takes back that {earlier[-1].what}."
         return Step(replace(state, deeds=tuple(earlier)).saying(said))
     if len(deed.back) == 1:
