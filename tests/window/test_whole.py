@@ -388,7 +388,7 @@ def test_the_place_of_cells_that_are_found_is_said_and_marked_there(
     desk.window.cells.select(Span(0, 1))
     desk.act("mark")
     assert asked == [
-        "The note of a mark on “s”, cell 18:",
+        "The note of a mark on “sea”, cells 18 to 20:",
         "The note of a mark on “T”, cells 1 to 2:",
     ]
 

@@ -2,7 +2,7 @@
 
 from braildesk.desk import search
 from braildesk.desk.find import alike
-from braildesk.text.cells import NotCells
+from braildesk.text.cells import NotCells, braille_patterns
 from braildesk.text.characters import code_and_name
 from braildesk.text.sequences import composed
 from braildesk.text.spans import Span, find_spans
@@ -90,7 +90,8 @@ class Finding:
             desk.window.print.setFocus()
         desk.choose(spot.chosen)
         if is_cells:
-            desk.window.cells.put_caret(spot.place)
+            count = len(braille_patterns(self.sought))
+            desk.window.cells.select(Span(spot.place, spot.place + count))
         else:
             desk.window.print.put_caret(spot.place)
             if (words := self.found_here()) is not None:
