@@ -426,6 +426,35 @@ def test_words_that_come_in_place_of_others_are_there_again_after_the_end(
     assert again.end() == 0
 
 
+def test_places_that_were_changed_one_by_one_are_in_the_book_after_a_kill(
+    moon: Path, at: Open
+) -> None:
+    window = at(moon)
+    window.press("Ctrl+Shift+H")
+    window.dialog("Change everywhere")
+    window.type("o")
+    window.press("Tab")
+    window.type("u")
+    window.press("Return")
+    window.dialog("Change everywhere")
+    window.press("Alt+p")
+    for lines, key in (
+        ("Place 1 of 4, paragraph 1: The M[o]on\nAfter: The M[u]on", "Return"),
+        ("Place 2 of 4, paragraph 1: The Mu[o]n\nAfter: The Mu[u]n", "Alt+l"),
+    ):
+        window.dialog("Change everywhere", lines)
+        window.press(key)
+    there = "The m[o]n is far away.\nAfter: The m[u]n is far away."
+    window.dialog("Change everywhere", f"Place 3 of 4, paragraph 2: {there}")
+    window.program.send_signal(signal.SIGKILL)
+    window.program.wait()
+    assert prints(moon)[:2] == ["The Muon", "The mon is far away."]
+    again = at(moon, is_waited_for=False)
+    again.top = again.dialog("Change everywhere")
+    said = "Changing “o” to “u” was cut short: 1 of 3 places is changed."
+    again.part("label", f"{said} Shall the others be changed?")
+
+
 @pytest.mark.parametrize("typed", ["", "The Moon and"])
 def test_where_the_x_server_ends_what_is_typed_is_kept_and_that_is_said(
     moon: Path, at: Open, typed: str

@@ -326,12 +326,11 @@ def prints_of(desk: Desk) -> list[str]:
     return desk.asked(lambda: [session.print_of(each.id) for each in book])
 
 
-def test_of_words_whose_change_was_cut_short_no_earlier_change_is_taken_back(
-    opened: Opened, monkeypatch: pytest.MonkeyPatch
+def test_words_whose_change_was_cut_short_are_taken_back_and_no_earlier_change_is(
+    opened: Opened, given: Answers
 ) -> None:
-    wanted = ["a", "e"], [False, False]
-    monkeypatch.setattr(dialogs, "fields", lambda *_: wanted)
-    monkeypatch.setattr(dialogs, "choice", lambda *_: 0)
+    given["fields"] = ["a", "e"], [False, False]
+    given["choices"] = [0, 0]
     with opened("4 read") as desk:
         desk.do(requests.Correct(2, 0, 0, "So, "))
         desk.act("change_all")
@@ -339,9 +338,38 @@ def test_of_words_whose_change_was_cut_short_no_earlier_change_is_taken_back(
             "The session was ended by signal 9. The book was opened again: it is at version 8."
             " What was being done was stopped after 2 changes."
         )
-        desk.act("take_back")
-        assert desk.window.message.text.startswith("There is nothing that Ctrl+Z")
         assert prints_of(desk)[1] == "So, The mon is fer eway."
+        desk.act("take_back")
+        assert given["said"][-1] == (
+            "The last action did this: “a” was replaced in 2 places. Shall all of it be taken back?"
+        )
+        assert desk.window.message.text == ("Taken back: “a” was replaced in 2 places.")
+        assert prints_of(desk)[1] == "So, The mon is far away."
+        desk.act("take_back")
+        assert prints_of(desk)[1] == "The mon is far away."
+
+
+@pytest.mark.parametrize(
+    "far, said, text",
+    [
+        # nobody answered that the last one was kept
+        ("kept", "There is nothing that Ctrl+Z", "So, The mon is fer ewey."),
+        ("answered", "Taken back: “a” was replaced in 3", "So, The mon is far away."),
+    ],
+)
+def test_where_words_that_were_changed_are_not_all_seen_no_earlier_change_is_taken_back(
+    opened: Opened, given: Answers, far: str, said: str, text: str
+) -> None:
+    given["fields"] = ["a", "e"], [False, False]
+    given["choices"] = [0, 0]
+    with opened(f"4 {far}") as desk:
+        desk.do(requests.Correct(2, 0, 0, "So, "))
+        desk.act("change_all")
+        assert desk.window.message.text.endswith("was stopped after 3 changes.")
+        assert prints_of(desk)[1] == "So, The mon is fer ewey."
+        desk.act("take_back")
+        assert desk.window.message.text.startswith(said)
+        assert prints_of(desk)[1] == text
 
 
 @pytest.mark.parametrize("moment", ["3 read", ""])

@@ -1,5 +1,8 @@
 """Words that are changed in the whole book, its volumes, and the ways to a place, without a window seen."""
 
+import os
+import signal
+from collections.abc import Sequence
 from pathlib import Path
 
 import pytest
@@ -7,11 +10,13 @@ from PyQt6.QtGui import QFont
 
 from braildesk import Style, requests
 from braildesk.desk.change_note import Became, ChangeNote, NotedPlace
+from braildesk.desk.drafts import Drafts
 from braildesk.desk.layout import PageSize
 from braildesk.desk.own_folder import OwnFolder, Unfit, state_folder
 from braildesk.text.spans import Span
 
 from scribe.window import dialogs
+from scribe.window.actions import Actions
 from scribe.window.desk import Desk
 
 from conftest import Answers
@@ -111,6 +116,104 @@ def test_each_place_is_asked_about_and_the_rest_stay(
     assert prints_of(desk)[:2] == ["The Moun", "The mon is far away."]
     assert desk.window.message.text.startswith("“o” was replaced by “u” in 1 place")
     assert "3 places stay as before." in desk.window.message.text
+
+
+def _asked_at(
+    monkeypatch: pytest.MonkeyPatch, desk: Desk, answers: Sequence[int | None]
+) -> list[str]:
+    """What is asked: each answer is given to one question, and at none the program is killed."""
+    asked: list[str] = []
+    left = [*answers]
+
+    def choice(over: object, title: str, said: str, names: object) -> int:
+        asked.append(said)
+        answer = left.pop(0)
+        if answer is None:
+            os.kill(desk.book.pid, signal.SIGKILL)
+            os.waitid(os.P_PID, desk.book.pid, os.WEXITED | os.WNOWAIT)
+        return answer or 0
+
+    monkeypatch.setattr(dialogs, "choice", choice)
+    return asked
+
+
+def test_each_answer_is_in_the_book_before_the_next_place_is_asked_about(
+    desk: Desk, given: Answers, monkeypatch: pytest.MonkeyPatch
+) -> None:
+    given["fields"] = ["o", "oo"], [False, False]
+    asked = _asked_at(monkeypatch, desk, [1, 0, 1, None])
+    desk.act("change_all")
+    # the second place is shown as it is by then
+    assert asked[1:3] == [
+        "Place 1 of 4, paragraph 1: The M[o]on\nAfter: The M[oo]on",
+        "Place 2 of 4, paragraph 1: The Moo[o]n\nAfter: The Moo[oo]n",
+    ]
+    assert desk.window.message.text == (
+        "The session was ended by signal 9. The book was opened again: it is at version 6, and what"
+        " was changed last is in it."
+    )
+    assert prints_of(desk)[0] == "The Mooon"
+    (note,) = Drafts(desk.path).changes()
+    places = [(each.paragraph, each.start, each.became) for each in note.places]
+    left, opened = Became.LEFT, Became.OPEN
+    changed = (1, 5, Became.CHANGED)
+    assert places == [changed, (1, 7, left), (2, 5, opened), (3, 21, opened)]
+    # those that were left aren't asked about again
+    asked = _asked_at(monkeypatch, desk, [0, 1, 0, 3])
+    desk.acting(Actions(desk).offer)
+    assert asked[0] == (
+        "Changing “o” to “oo” was cut short: 1 of 3 places is changed. Shall the others be changed?"
+    )
+    assert asked[2].startswith("Place 1 of 2, paragraph 2: ")
+    assert prints_of(desk) == [
+        "The Mooon",
+        "The moon is far away.",
+        "Twice a day the sea comes up.",
+    ]
+    assert Drafts(desk.path).changes() == ()
+    assert desk.window.message.text.startswith("“o” was replaced by “oo” in 1 place")
+    assert "2 places stay as before." in desk.window.message.text
+
+
+@pytest.mark.parametrize(
+    "answers, prints, said",
+    [
+        ([0, 0, 0, 0], ["The Muun", "The mun is far away."], "in 4 places of 3 "),
+        ([0, 1, 2], ["The Muon", "The mun is far away."], "in 3 places of 3 "),
+        ([1, 0, 3], ["The Moun", "The mon is far away."], "in 1 place of 1 "),
+    ],
+)
+def test_places_that_were_asked_about_are_taken_back_together(
+    desk: Desk, given: Answers, answers: list[int], prints: list[str], said: str
+) -> None:
+    desk.do(requests.Style(1, Style.HEADING))
+    before = prints_of(desk)
+    given["fields"] = ["o", "u"], [False, False]
+    given["choices"] = [1, *answers, 0]
+    desk.act("change_all")
+    assert prints_of(desk)[:2] == prints
+    assert said in desk.window.message.text
+    assert sum(each.startswith("Before: ") for each in given["said"]) == int(said[3])
+    assert Drafts(desk.path).changes() == ()
+    desk.act("take_back")
+    assert desk.window.message.text.startswith("Taken back: “o” was replaced in ")
+    assert prints_of(desk) == before
+    desk.act("take_back")
+    assert desk.window.message.text == "Taken back: paragraph 1 was made a heading."
+
+
+def test_a_place_that_the_book_refuses_is_said_at_the_end_and_stays(
+    desk: Desk, given: Answers
+) -> None:
+    given["fields"] = ["o", "#"], [False, False]
+    given["choices"] = [1, 0, 1, 3]
+    desk.act("change_all")
+    said = desk.window.message.text
+    assert (
+        "Refused in paragraph 1, character 6: The table of paragraph 1 has no" in said
+    )
+    assert "1 place was refused and stays as before. 3 places stay as before." in said
+    assert prints_of(desk)[0] == "The Moon"
 
 
 def test_places_where_the_new_words_stand_already_are_not_asked_about(

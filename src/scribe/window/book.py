@@ -10,7 +10,7 @@ from typing import Any
 
 from braildesk import Displaced, Lost, Paragraph, Refused, Session, requests
 from braildesk.desk import search
-from braildesk.desk.change import Change
+from braildesk.desk.change import Change, change_place
 from braildesk.desk.change_all import NotChanged, Passed, Proposal
 from braildesk.desk.changed_so_far import Further
 from braildesk.desk.correction import smallest_correction, with_typed
@@ -87,14 +87,6 @@ class Done:
     contents: Contents
     said: str
     paragraph: int | None
-
-
-@dataclass(frozen=True)
-class Chosen:
-    """Which places of words are changed, from the first one on, and whether the rest are."""
-
-    places: tuple[bool, ...]
-    is_of_rest: bool
 
 
 class NotAll(Exception):
@@ -382,45 +374,68 @@ class OpenBook:
             self._gather(before, what)
         return Done(self.contents(), f"kept: {what}", None)
 
+    def changed_at(self, its: Proposal, by: str | None) -> Change:
+        """Changes one place of words, and notes how that is taken back."""
+        session, number = self._session, its.paragraph
+        begun = session.last_version
+        try:
+            return change_place(session, number, its.text, its.place, its.new, by)
+        finally:
+            # it may be kept also where the session ends before all of it is seen
+            if session.last_version > begun:
+                deed = Deed(
+                    f"paragraph {number} was corrected", (requests.Undo(number),)
+                )
+                self._deeds = (*self._deeds, deed)
+
     def changed_all(
         self,
         further: Further,
         found: Sequence[Proposal],
-        chosen: Chosen,
+        count: Count,
         go_on: Callable[[int], bool],
         width: int,
     ) -> tuple[list[str], list[str]]:
-        """Changes places of words, and gives what is said of all of them, and lines of each."""
-        wanted = further.wanted
-        count, lines, places = Count(wanted), [], iter(chosen.places)
+        """Changes places of words, and gives what is said of all of them, and lines of each.
+
+        Those that are counted already were changed one by one, and are taken back with these.
+        """
+        session, lines, said = self._session, list[str](), list[str]()
+        before = self._deeds[: len(self._deeds) - count.changed]
         backs: list[Command[Any]] = []
-        said: list[str] = []
+        last: list[int] = []
 
         def is_wanted(its: Proposal) -> bool:
             if not go_on(count.changed):
                 raise _StoppedHere
-            return next(places, chosen.is_of_rest)
+            last[:] = [its.paragraph]
+            return True
 
-        begun = self._session.last_version
+        begun = session.last_version
         try:
             changed = further.changed(
                 found, is_wanted, lambda fault: said.append(not_kept(fault))
             )
-            for its in count.lines(_with_backs(changed, backs), width):
-                lines += its
+            for each in count.lines(_with_backs(changed, backs), width):
+                lines += each
         except _StoppedHere:
             said.append(REST_STAYS)
-        except Lost as lost:
-            if lost.version != begun:
-                # what was done before would be taken back in the place of this
-                self._deeds = ()
-            raise
+        finally:
+            # as above, of the last one
+            is_more = session.last_version > begun + len(backs)
+            its = [requests.Undo(number) for number in last if is_more]
+            self._note_changed(before, further.wanted.old, [*its, *backs])
+        return [*count.sentences(session.last_version), *said], lines
+
+    def _note_changed(
+        self, before: tuple[Deed, ...], old: str, backs: Sequence[Command[Any]]
+    ) -> None:
+        """Has words that were changed be taken back together with those changed since then."""
+        since = reversed(self._deeds[len(before) :])
+        backs = (*backs, *(command for each in since for command in each.back))
         if backs:
-            what = (
-                f"{quoted(wanted.old)} was replaced in {counted(len(backs), 'place')}"
-            )
-            self._deeds = (*self._deeds, Deed(what, tuple(backs)))
-        return [*count.sentences(self._session.last_version), *said], lines
+            what = f"{quoted(old)} was replaced in {counted(len(backs), 'place')}"
+            self._deeds = (*before, Deed(what, backs))
 
     def taken_back(self, report: Callable[[int, int], None]) -> Done:
         """Takes back what was done last in this window.

@@ -2,20 +2,30 @@
 
 from collections.abc import Sequence
 from concurrent.futures import Future
+from contextlib import suppress
+from dataclasses import replace
 from functools import partial
 
-from braildesk.desk.change_all import Proposal, Replacement
-from braildesk.desk.changed_so_far import Further, left_open
+from braildesk import Refused
+from braildesk.desk.change_all import (
+    NotChanged,
+    Passed,
+    Proposal,
+    Replacement,
+    moved_by,
+)
+from braildesk.desk.change_note import Became
+from braildesk.desk.changed_so_far import Further, left_open, note_of
 from braildesk.desk.correction import replaced
 from braildesk.desk.drafts import NotKept
 
 from scribe.window import dialogs
-from scribe.window.book import Chosen
 from scribe.window.desk import Desk
 from scribe.window.dialogs import IsStopped, Say
 from scribe.window.finding import Finding
 from scribe.words.drafts import not_kept
 from scribe.words.change_all import (
+    Count,
     cut_short,
     how_many,
     none_left,
@@ -120,12 +130,19 @@ class Changing:
 
     def go_on(self, wanted: Replacement) -> None:
         """Puts words in place of others wherever these stand and weren't changed before."""
+        desk = self.desk
         further, found = self._found(wanted)
-        chosen = self._chosen(further, found)
-        if chosen is None:
-            self.desk.say(_NOTHING)
+        answer = self._how(further, found)
+        if answer == 2:
+            desk.say(_NOTHING)
             return
-        self._do(further, found, chosen)
+        places = _PlaceByPlace(desk, further, found)
+        if answer == 0 or places.are_rest_wanted():
+            self._do(further, places.open, places.count, places.lines)
+        elif not desk.is_ending:
+            for each in places.open:
+                places.count.add(Passed(each))
+            self._do(further, (), places.count, places.lines)
 
     def _found(self, wanted: Replacement) -> tuple[Further, Sequence[Proposal]]:
         """The places where the words stand."""
@@ -146,10 +163,9 @@ class Changing:
 
         return dialogs.long(desk.window, desk.work, _TITLE, look)
 
-    def _chosen(self, further: Further, found: Sequence[Proposal]) -> Chosen | None:
-        """Which places are changed; none where that is given up."""
-        window, count = self.desk.window, len(found)
-        front = "\n".join(proposal_lines(found[0], 1, count, _WIDTH))
+    def _how(self, further: Further, found: Sequence[Proposal]) -> int:
+        """Asks how the places are changed, if they are."""
+        front = "\n".join(proposal_lines(found[0], 1, len(found), _WIDTH))
         before = [
             cut_short(note, [became for _, became in places], " already")
             for note, places in further.notes
@@ -157,34 +173,89 @@ class Changing:
         unseen = filter(None, [not_seen(further.unseen(found))])
         said = " ".join([*before, *unseen, how_many(further.wanted, found)])
         asked = f"{said} The first one:\n\n{front}"
-        answer = dialogs.choice(window, _TITLE, asked, _OF_ALL)
-        if answer == 2:
-            return None
-        if answer == 0:
-            return Chosen((), True)
-        wanted_places: list[bool] = []
-        for nth, each in enumerate(found, 1):
-            lines = "\n".join(proposal_lines(each, nth, count, _WIDTH))
-            answer = dialogs.choice(window, _TITLE, lines, _OF_A_PLACE)
-            if answer >= 2:
-                return Chosen(tuple(wanted_places), answer == 2)
-            wanted_places.append(answer == 0)
-        return Chosen(tuple(wanted_places), False)
+        return dialogs.choice(self.desk.window, _TITLE, asked, _OF_ALL)
 
-    def _do(self, further: Further, found: Sequence[Proposal], chosen: Chosen) -> None:
-        """Changes the places, and reports what became of them."""
-        desk = self.desk
+    def _do(
+        self,
+        further: Further,
+        found: Sequence[Proposal],
+        count: Count,
+        before: Sequence[str],
+    ) -> None:
+        """Changes the places, and reports what became of them and of those before them."""
+        desk, whole = self.desk, count.changed + len(found)
 
         def act(say: Say, is_stopped: IsStopped) -> tuple[list[str], list[str]]:
             def go_on(changed: int) -> bool:
-                say(f"{part_of(changed, len(found), 'place')} changed.")
+                say(f"{part_of(changed, whole, 'place')} changed.")
                 return not is_stopped()
 
-            return desk.book.changed_all(further, found, chosen, go_on, _WIDTH)
+            return desk.book.changed_all(further, found, count, go_on, _WIDTH)
 
         sentences, lines = dialogs.long(desk.window, desk.work, _TITLE, act)
         self._keep("", "")
         desk.window.model.all_unread()
         desk.show(desk.asked(desk.book.contents), None)
         desk.say(" ".join(sentences))
-        dialogs.report(desk.window, _TITLE, [*sentences, *lines])
+        dialogs.report(desk.window, _TITLE, [*sentences, *before, *lines])
+
+
+class _PlaceByPlace:
+    """Places that are asked about, of which each is changed before it is asked about the next one."""
+
+    def __init__(self, desk: Desk, further: Further, found: Sequence[Proposal]) -> None:
+        self._desk = desk
+        self._further = further
+        #: The places about which nothing was answered yet.
+        self.open = [*found]
+        #: What became of the others, and a few lines of each that was changed.
+        self.count = Count(further.wanted)
+        self.lines: list[str] = []
+
+    def are_rest_wanted(self) -> bool:
+        """Asks about one place after the other; whether all that are left are to be changed."""
+        desk, count = self._desk, len(self.open)
+        while self.open:
+            its, nth = self.open[0], count - len(self.open) + 1
+            lines = "\n".join(proposal_lines(its, nth, count, _WIDTH))
+            answer = dialogs.choice(desk.window, _TITLE, lines, _OF_A_PLACE)
+            if answer >= 2:
+                return answer == 2
+            desk.asked(partial(self._answered, its, answer == 0))
+        return False
+
+    def _answered(self, its: Proposal, is_wanted: bool) -> None:
+        """Changes a place or leaves it, and notes what became of those up to it."""
+        answered = self._further.answered
+        if is_wanted and its.changes:
+            self._note()
+            self._change(its)
+            return
+        del self.open[0]
+        answered.append((its, Became.LEFT))
+        self._note()
+
+    def _change(self, its: Proposal) -> None:
+        further, answered = self._further, self._further.answered
+        try:
+            change = self._desk.book.changed_at(its, further.wanted.by)
+        except Refused as refused:
+            del self.open[0]
+            answered.append((its, Became.OPEN))
+            self.count.add(NotChanged(its, refused))
+            return
+        self.open = moved_by(change, self.open[1:])
+        became = [each for _, each in answered]
+        answered[:] = zip(moved_by(change, (each for each, _ in answered)), became)
+        came = replace(its, text=change.now, place=change.came)
+        answered.append((came, Became.CHANGED))
+        for lines in self.count.lines([change], _WIDTH):
+            self.lines += lines
+
+    def _note(self) -> None:
+        """Notes what became of the places so far, of which the next opening asks after a kill."""
+        desk, further = self._desk, self._further
+        places = [*further.answered, *((each, Became.OPEN) for each in self.open)]
+        note = note_of(further.wanted, places, desk.book.session.last_version)
+        with suppress(NotKept):
+            desk.drafts.begin_change(note)
