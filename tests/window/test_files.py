@@ -1,8 +1,15 @@
 """Texts that come in and pages that go out, by dialogs, and what is copied."""
 
+import errno
 from pathlib import Path
 
+import pytest
+
 from braildesk import Session
+from braildesk.workshop import MayNotLast
+
+from scribe.window import dialogs
+from scribe.window.desk import Desk
 
 from conftest import Open, prints
 from reader import Reader, all_within
@@ -138,3 +145,30 @@ def test_the_book_is_closed_with_what_is_typed_in_it(moon: Path, at: Open) -> No
     window.press("Ctrl+q")
     assert window.end() == 0
     assert prints(moon)[1] == "The end"
+
+
+@pytest.mark.parametrize(
+    "failed, said",
+    [
+        (
+            MayNotLast(errno.EIO, "Input/output error"),
+            "is written, but its folder could not be brought to the disk: Input/output error.",
+        ),
+        (
+            OSError(errno.ENOSPC, "No space left on device"),
+            "could not be written: No space left on device.",
+        ),
+    ],
+)
+def test_what_became_of_a_proof_is_said_where_the_disk_fails(
+    desk: Desk, monkeypatch: pytest.MonkeyPatch, failed: OSError, said: str
+) -> None:
+    proof = desk.path.with_name("moon.html")
+
+    def write(*_: object) -> None:
+        raise failed
+
+    monkeypatch.setattr(dialogs, "file_to_write", lambda *_: proof)
+    monkeypatch.setattr("scribe.window.files.write_whole", write)
+    desk.act("proof")
+    assert desk.window.message.text.startswith(f"{proof} {said}")

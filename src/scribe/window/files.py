@@ -13,6 +13,7 @@ from braildesk.desk.export import Job
 from braildesk.desk.import_text import Import
 from braildesk.desk.proof import open_marks, proof_pages
 from braildesk.desk.whole_file import Access, write_whole
+from braildesk.workshop import MayNotLast
 
 from scribe.window import dialogs
 from scribe.window.book import Contents
@@ -21,7 +22,13 @@ from scribe.window.dialogs import IsStopped, Say
 from scribe.words.console import Console, Heard
 from scribe.words.deeds import changed_between
 from scribe.words.export import export_in_words
-from scribe.words.status import Interrupted, Stop, in_sentences, of_system
+from scribe.words.status import (
+    Interrupted,
+    Stop,
+    in_sentences,
+    may_not_last,
+    of_system,
+)
 from scribe.words.import_text import import_in_words, question
 from scribe.words.pages import described, not_exported
 from scribe.words.paragraph import counted
@@ -112,8 +119,14 @@ class Files:
                 raise Stop("The book has no page, so no proof was written.")
             left = open_marks(session) - sum(each.open_marks for each in pages)
             text = "".join(proof.html(pages)).encode()
-            with in_sentences():
+            try:
                 write_whole(file, text, Access.of(desk.path))
+            except MayNotLast as failed:
+                raise Stop(may_not_last(file, failed)) from failed
+            except OSError as failed:
+                raise Stop(
+                    f"{file} could not be written: {failed.strerror}."
+                ) from failed
             said = f"{file}: {counted(len(pages), 'page')}."
             eight_dots = not_exported((each.volume, each.eight_dots) for each in pages)
             return (said, *([elsewhere(left)] if left else []), *eight_dots)
