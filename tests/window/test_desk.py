@@ -81,7 +81,7 @@ def test_of_lines_that_are_refused_none_is_lost(
     desk: Desk, asked: dict[str, int], monkeypatch: pytest.MonkeyPatch
 ) -> None:
     monkeypatch.setattr(dialogs, "one_of", lambda _, t, a, names, f: names[0])
-    asked["Pasted lines"] = 0
+    asked["Pasted lines"] = asked["Typed lines"] = 0
     desk.act("new_after")
     _paste(desk, "One.\n#\nTwo.\nThree.")
     assert _prints(desk)[:3] == ["The Moon", "One.", "The mon is far away."]

@@ -138,6 +138,9 @@ def test_what_is_typed_while_the_window_waits_outlives_a_kill(
         " Shall it be typed further?",
     )
     again.press("Return")
+    asked = "What was typed has 3 lines. Are they paragraphs?"
+    again.dialog("Typed lines", asked)
+    again.press("Return")
     again.no_dialog()
     again.opened()
     again.says("Kept")

@@ -252,7 +252,7 @@ def test_of_lines_none_is_lost_with_the_session_and_none_typed_twice(
     how: str,
 ) -> None:
     monkeypatch.setattr(dialogs, "one_of", lambda _, t, a, names, f: names[0])
-    asked["Pasted lines"] = 0
+    asked["Pasted lines"] = asked["Typed lines"] = 0
     with opened(f"{command} {how}") as desk:
         if is_new:
             desk.act("new_after")
@@ -290,7 +290,7 @@ def test_lines_of_which_the_first_is_in_the_book_go_on_after_it(
     desk.do(requests.Type(1, "en", "One."))
     desk.choose(3)
     Drafts(desk.path).save(draft)
-    asked["Unsent text"] = 0
+    asked["Unsent text"] = asked["Typed lines"] = 0
     desk.acting(Actions(desk).offer)
     assert prints_of(desk)[:5] == [
         "The Moon",

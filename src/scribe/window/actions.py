@@ -20,7 +20,7 @@ class Actions:
 
     def __init__(self, desk: Desk) -> None:
         files, marking, finding = Files(desk), Marking(desk), Finding(desk)
-        typed, changing = Typed(desk, marking.noted), Changing(desk, finding)
+        typed, changing = Typed(desk, marking.noted_further), Changing(desk, finding)
         parts = (
             *(files, typed, finding, changing, Structure(desk)),
             *(Volumes(desk), Going(desk, finding), marking, View(desk)),

@@ -114,6 +114,8 @@ class Desk:
     _beneath = "", 0, 0
     # others than hands type where nothing can be typed
     _is_typed_nowhere = False
+    # the text that was put into the print last by no hands
+    _put_in = ""
 
     def __init__(
         self,
@@ -1017,6 +1019,20 @@ class Desk:
             return self.new.table
         return self.reading.its.paragraph.table if self.reading else None
 
+    def put_in(self, text: str) -> None:
+        """Has a text that was typed before be in the print, in place of what is there."""
+        self._put_in = text
+        self.window.print.selectAll()
+        self.window.print.put_in(text)
+
+    def take_typed_back(self) -> None:
+        """Takes back what was typed last. A text that was put in isn't lost by that."""
+        before = self.draft()
+        self.window.print.undo()
+        if before is None or self.draft() is not None or before.text != self._put_in:
+            return
+        self.say(f"Given up. The book is as it was. {self.put_by(before)}")
+
     def settle(self) -> bool:
         """Keeps what is typed; whether nothing is typed any more that the book doesn't have."""
         new, text = self.new, self.typed_text()
@@ -1046,8 +1062,7 @@ class Desk:
         self._show_settled(done, min(place, len(text)))
         if later == text:
             return True
-        self.window.print.selectAll()
-        self.window.print.textCursor().insertText(later)
+        self.put_in(later)
         return self.settle()
 
     def _show_settled(self, done: Done | None, place: int) -> None:
@@ -1117,7 +1132,7 @@ class Desk:
         finally:
             self._is_showing = False
         if text:
-            window.print.textCursor().insertText(text)
+            self.put_in(text)
         self._unlinked()
 
     def leave_new(self) -> None:
@@ -1235,8 +1250,7 @@ class Desk:
         if new is not None:
             self.begin_new(new, draft.text)
         elif self.number == number:
-            self.window.print.selectAll()
-            self.window.print.textCursor().insertText(draft.text)
+            self.put_in(draft.text)
         else:
             table = draft.table or contents.tables[0]
             self.begin_new(New(Aim.AFTER, self.number, table), draft.text)

@@ -278,6 +278,17 @@ class Print(Field):
         else:
             super().keyPressEvent(event)
 
+    def put_in(self, text: str) -> None:
+        """Has a text come where the caret is, or in place of what is selected, as a step of its own.
+
+        Qt joins what is typed to what came just before it, unless the document is as it was saved.
+        """
+        document = self.document()
+        assert document is not None
+        document.setModified(False)
+        self.textCursor().insertText(text)
+        document.setModified(False)
+
     def have_kept(self) -> None:
         """What was typed is kept, and isn't taken back as what is typed any more."""
         document = self.document()
@@ -302,7 +313,7 @@ class Print(Field):
         if len(lines) > 1:
             self._hand_on(_with_end(self._parted(lines, text), text))
         elif lines:
-            self.textCursor().insertText(*self._parted(lines, text))
+            self.put_in(*self._parted(lines, text))
         # the caret is seen where the text ends
         self.ensureCursorVisible()
 

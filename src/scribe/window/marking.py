@@ -44,6 +44,16 @@ class Marking:
         place = desk.window.print.place
         return desk.asked(partial(desk.book.by_character, reading, place)).cells
 
+    def noted_further(self, cells: Span, note: str) -> None:
+        """Asks for a note that was typed before, with the caret where its mark will be."""
+        desk, reading = self.desk, self.desk.reading
+        # a screen reader that hears of the caret first says nothing of the print
+        desk.window.print.setFocus()
+        if reading is not None and cells.stop <= len(reading.its.braille):
+            there = desk.asked(partial(desk.book.by_cell, reading, cells.start))
+            desk.window.print.put_caret(there.words.start)
+        self.noted(cells, note)
+
     def noted(self, cells: Span, note: str) -> None:
         """Asks for the note of a mark on cells, which waits while it is typed."""
         desk, reading = self.desk, self.desk.reading

@@ -20,9 +20,21 @@ from scribe.window.book import Done, NotAll, NothingToTakeBack, ChosenParagraph
 from scribe.window.desk import CLOSED, Desk, New
 from scribe.window.dialogs import IsStopped, Say
 from scribe.window.fields import MOST_OF_ONE
-from scribe.words.drafts import not_kept, what_for
+from scribe.words.drafts import (
+    changed_since,
+    not_kept,
+    what_for,
+    without_paragraph,
+)
 from scribe.words.paragraph import part_of, quoted
 from scribe.words.status import Interrupted, Stop
+
+_NOT_YET = (
+    "Nothing was taken back: what is typed isn't in the book yet. Enter keeps it, and Escape gives it"
+    " up."
+)
+# what lines may be
+_PARAGRAPHS, _ONE = "&Paragraphs", "&One paragraph"
 
 
 class Typed:
@@ -41,38 +53,47 @@ class Typed:
         # what was typed and taken away again may be wanted too, by who is in the print
         is_there = desk.is_typed() or desk.new or desk.window.focusWidget() is field
         if is_there and document.isUndoAvailable():
-            field.undo()
+            desk.take_typed_back()
+            return
+        if desk.draft() is not None:
+            # the book would have it for a moment, and nobody after that
+            self.give_up()
             return
         if not desk.settle() or not self._is_taken_back():
             return
 
-        def act(say: Say, is_stopped: IsStopped) -> Done:
-            def report(done: int, count: int) -> None:
-                say(f"{done:,} of {count:,} done.")
-                if is_stopped():
-                    raise Interrupted(signal.SIGINT)
-
-            deed, version = desk.book.last_deed, desk.book.session.last_version
-            if deed is None or len(deed.back) < 2:
-                return desk.book.taken_back(report)
-            with suppress(NotKept):
-                desk.drafts.take_back(version, len(deed.back))
-            try:
-                return desk.book.taken_back(report)
-            finally:
-                # else nobody reads how far it came
-                if not desk.is_ending:
-                    with suppress(NotKept):
-                        desk.drafts.take_back(version, 0)
-
         try:
-            desk.show_done(dialogs.long(desk.window, desk.work, "Take back", act))
+            desk.show_done(
+                dialogs.long(desk.window, desk.work, "Take back", self._back)
+            )
             desk.window.model.all_unread()
         except NothingToTakeBack:
             desk.refuse(
                 "There is nothing that Ctrl+Z could take back. Ctrl+Shift+Z takes back the newest"
                 " correction of the paragraph."
             )
+
+    def _back(self, say: Say, is_stopped: IsStopped) -> Done:
+        """Takes back what was done last, and notes how far that is where it takes many commands."""
+        desk = self.desk
+
+        def report(done: int, count: int) -> None:
+            say(f"{done:,} of {count:,} done.")
+            if is_stopped():
+                raise Interrupted(signal.SIGINT)
+
+        deed, version = desk.book.last_deed, desk.book.session.last_version
+        if deed is None or len(deed.back) < 2:
+            return desk.book.taken_back(report)
+        with suppress(NotKept):
+            desk.drafts.take_back(version, len(deed.back))
+        try:
+            return desk.book.taken_back(report)
+        finally:
+            # else nobody reads how far it came
+            if not desk.is_ending:
+                with suppress(NotKept):
+                    desk.drafts.take_back(version, 0)
 
     def _is_taken_back(self) -> bool:
         """Whether what was done last is taken back: of much it is asked first."""
@@ -121,6 +142,9 @@ class Typed:
 
     def undo_here(self) -> None:
         """Takes back the newest correction of the chosen paragraph, whoever made it."""
+        if self.desk.draft() is not None:
+            # it would be that correction
+            raise Stop(_NOT_YET)
         number = self.desk.settled()
         self.desk.do(requests.Undo(number))
 
@@ -157,38 +181,90 @@ class Typed:
         name = dialogs.one_of(desk.window, "Bring back a text", asked, names, 0)
         if name is not None:
             draft = texts[names.index(name)]
+            changed = self.changed_since(draft)
             try:
                 desk.aside.result(lambda: desk.unsent.take_up(draft, draft.text), False)
             except NotKept as fault:
                 # it is typed further, as anything is that can't be kept meanwhile
                 desk.say(not_kept(fault))
             self.type_further(draft)
+            if desk.is_typed():
+                desk.say_too(changed.lstrip())
+
+    def changed_since(self, draft: Draft) -> str:
+        """That the print at which a text was typed is another since, or isn't there; or nothing."""
+        desk, row = self.desk, self.desk.contents.place(draft.paragraph)
+        if row is None:
+            return without_paragraph(draft)
+        session, number = desk.book.session, desk.contents.paragraphs[row].id
+        return changed_since(draft, desk.asked(lambda: session.print_of(number)))
 
     def type_further(self, draft: Draft) -> None:
         """Has a text be typed further that waits or was given up."""
         desk = self.desk
+        # until it is in its place it waits as it is
+        desk.have_wait(draft)
+        try:
+            new = self._gone_to(draft)
+        except (Refused, Stop) as stopped:
+            raise Stop(f"{stopped.sentence} {desk.put_by(draft)}") from stopped
+        if new is None and draft.aim is Aim.NOTE:
+            self._noted(draft.cells or Span(0, 1), draft.text)
+            return
+        lines = [each for each in draft.text.split("\n") if each.strip()]
+        if len(lines) > 1:
+            self._lines_further(draft, new, lines)
+            return
+        desk.beside = None
+        self._put_in(new, draft.text)
+
+    def _gone_to(self, draft: Draft) -> New | None:
+        """Goes to the paragraph of a text, and gives the new one that it will be; none if it isn't."""
+        desk = self.desk
         row = desk.contents.place(draft.paragraph)
         if row is not None:
             desk.choose(row)
-        if draft.aim is Aim.NOTE and row is not None:
-            self._noted(draft.cells or Span(0, 1), draft.text)
-            return
-        lines = draft.text.split("\n")
-        if len(lines) > 1:
-            # until they are typed the first doesn't wait without the others
-            desk.have_wait(draft)
-        is_edit = draft.aim is Aim.EDIT and row is not None
-        if is_edit and not desk.window.print.isReadOnly():
-            desk.window.print.setFocus()
-            desk.window.print.selectAll()
-            desk.window.print.textCursor().insertText(lines[0])
+        is_of_it = row is not None and not draft.aim.is_new
+        if is_of_it and (draft.aim is Aim.NOTE or not desk.window.print.isReadOnly()):
+            return None
+        aim = draft.aim if draft.aim.is_new else Aim.AFTER
+        table = draft.table if draft.table in desk.contents.tables else None
+        return New(aim, desk.number, table or desk.table_of_new())
+
+    def _put_in(self, new: New | None, text: str) -> None:
+        """Has a text be typed in the chosen paragraph, or as a new one."""
+        desk = self.desk
+        if new is not None:
+            desk.begin_new(new, text)
         else:
-            aim = draft.aim if draft.aim.is_new else Aim.AFTER
-            table = draft.table if draft.table in desk.contents.tables else None
-            new = New(aim, desk.number, table or desk.table_of_new())
-            desk.begin_new(new, lines[0])
-        if len(lines) > 1:
+            desk.window.print.setFocus()
+            desk.put_in(text)
+
+    def _lines_further(
+        self, draft: Draft, new: New | None, lines: Sequence[str]
+    ) -> None:
+        """Asks what lines are that wait or were given up, which wait until that is answered."""
+        desk, joined = self.desk, " ".join(lines)
+        if desk.is_closed:
+            raise Stop(f"{CLOSED} {desk.put_by(draft)}")
+        asked = f"What was typed has {len(lines):,} lines. Are they paragraphs?"
+        if new is None:
+            asked += f" The first goes on in paragraph {desk.number}."
+        answers = [_PARAGRAPHS, _ONE, "&Give them up"]
+        if len(joined) > MOST_OF_ONE:
+            answers.remove(_ONE)
+        answer = answers[dialogs.choice(desk.window, "Typed lines", asked, answers)]
+        if desk.is_ending:
+            return
+        if answer == _ONE:
+            desk.beside = None
+            self._put_in(new, joined)
+        elif answer == _PARAGRAPHS:
+            # until they are typed the first doesn't wait without the others
+            self._put_in(new, lines[0])
             self.typed_lines(lines)
+        else:
+            desk.say(f"Given up. The book is as it was. {desk.put_by(draft)}")
 
     def pasted(self, lines: Sequence[str]) -> None:
         """Asks what lines are that were pasted where the caret is.
@@ -202,7 +278,7 @@ class Typed:
         tables = desk.book.tables
         fault = desk.ahead.result(lambda: tables.first_fault(table, lines))
         asked = f"{sum(map(bool, lines)):,} lines were pasted. Are they paragraphs?"
-        answers = ("&Paragraphs", "&One paragraph", "&Neither")
+        answers = (_PARAGRAPHS, _ONE, "&Neither")
         said = f"{fault} {asked}".strip()
         whole, selected = desk.typed_text(), field.selected
         front, back = whole[: selected.start], whole[selected.stop :]
@@ -225,7 +301,7 @@ class Typed:
         if answer == 1 and count <= MOST_OF_ONE:
             if not back[:1].strip():
                 joined = joined.rstrip()
-            field.textCursor().insertText(joined)
+            field.put_in(joined)
         desk.keep_draft(desk.draft())
         if answer == 1 and count > MOST_OF_ONE:
             raise Stop(too_much(count, MOST_OF_ONE))
@@ -280,12 +356,11 @@ class Typed:
         self, reading: ChosenParagraph, line: str, others: Draft | None
     ) -> None:
         """Makes the chosen paragraph the first of some lines, which stays typed if it is refused."""
-        desk, field = self.desk, self.desk.window.print
+        desk = self.desk
         try:
             done = desk.asked(lambda: desk.book.corrected(reading, line))
         except Refused as refused:
-            field.selectAll()
-            field.textCursor().insertText(line)
+            desk.put_in(line)
             more = ""
             if others is not None:
                 more = f"What comes after it was given up. {desk.put_by(others)}"

@@ -1,0 +1,291 @@
+"""Texts that are put into the print by the window, as one that is brought back: no key loses them."""
+
+import os
+import signal
+from pathlib import Path
+
+import pytest
+from PyQt6.QtCore import QMimeData
+
+from braildesk import Paragraph, new_book, requests
+from braildesk.desk.draft import Aim, Draft
+from braildesk.desk.drafts import Drafts
+from braildesk.desk.layout import PageSize
+from braildesk.protocol.requests import Command
+from braildesk.text.spans import Span
+
+from scribe.window import dialogs
+from scribe.window.actions import Actions
+from scribe.window.book import ChosenParagraph
+from scribe.window.desk import Desk
+
+from conftest import Answers
+from test_whole import prints_of
+
+GIVEN_UP = "Given up. The book is as it was. Ctrl+B brings it back."
+EDIT = Draft(Aim.EDIT, 2, "en", "The mon is far away.", "The moon rose.", None, 5)
+AFTER = Draft(Aim.AFTER, 2, "en", "", "It rose.", None, 5)
+LINES = Draft(Aim.AFTER, 1, "en", "", "One.\nTwo.\nThree.", None, 5)
+
+
+@pytest.fixture
+def first(monkeypatch: pytest.MonkeyPatch) -> None:
+    """The first of several names is chosen."""
+    monkeypatch.setattr(dialogs, "one_of", lambda _, title, asked, names, n: names[0])
+
+
+def _type(desk: Desk, text: str) -> None:
+    """Types letters as keys do, one by one."""
+    for letter in text:
+        desk.window.print.textCursor().insertText(letter)
+
+
+def _kept(desk: Desk) -> tuple[list[str], str]:
+    """The texts that were given up, and the one that waits."""
+    desk.wait_for_draft()
+    drafts = Drafts(desk.path)
+    waiting = drafts.waiting()
+    return [each.text for each in drafts.given_up()], waiting.text if waiting else ""
+
+
+@pytest.mark.parametrize("draft", [EDIT, AFTER])
+def test_what_is_typed_after_a_text_that_was_brought_back_is_taken_back_alone(
+    desk: Desk, first: None, draft: Draft
+) -> None:
+    desk.put_by(draft)
+    desk.act("bring_back")
+    field, document = desk.window.print, desk.window.print.document()
+    assert document is not None
+    _type(desk, " So.")
+    assert field.text == f"{draft.text} So."
+    desk.act("take_back")
+    assert (field.text, _kept(desk)) == (draft.text, ([], draft.text))
+    desk.act("take_back")
+    assert (field.text, desk.window.message.text) == (draft.before, GIVEN_UP)
+    assert _kept(desk) == ([draft.text], "")
+    # it is there again by either key
+    field.redo()
+    assert (field.text, _kept(desk)[1]) == (draft.text, draft.text)
+    desk.act("take_back")
+    desk.act("bring_back")
+    assert (field.text, _kept(desk)) == (draft.text, ([], draft.text))
+    desk.act("give_up")
+
+
+def test_what_is_typed_by_hands_is_taken_back_and_is_not_given_up(desk: Desk) -> None:
+    desk.window.print.put_caret(8)
+    _type(desk, " rose.")
+    desk.act("take_back")
+    assert (desk.window.print.text, _kept(desk)) == ("The Moon", ([], ""))
+    assert desk.window.message.text == ""
+
+
+def _paste(desk: Desk, text: str) -> None:
+    data = QMimeData()
+    data.setText(text)
+    desk.window.print.insertFromMimeData(data)
+
+
+@pytest.mark.parametrize("text", [" far", " very\nfar"])
+def test_what_is_pasted_is_taken_back_without_what_was_typed_before_or_after_it(
+    desk: Desk, given: Answers, text: str
+) -> None:
+    given["choices"] = [1]
+    desk.window.print.put_caret(8)
+    _type(desk, " is")
+    _paste(desk, text)
+    _type(desk, " off")
+    wanted = f"The Moon is {' '.join(text.split())}"
+    assert desk.window.print.text == f"{wanted} off"
+    for there in (wanted, "The Moon is", "The Moon"):
+        desk.act("take_back")
+        assert desk.window.print.text == there
+
+
+def test_what_stays_typed_once_the_session_ended_is_taken_back_and_not_lost(
+    desk: Desk,
+) -> None:
+    _type(desk, "So: ")
+    os.kill(desk.book.pid, signal.SIGKILL)
+    desk.act("keep")
+    assert desk.window.print.text == "So: The Moon"
+    _type(desk, "!")
+    desk.act("take_back")
+    assert desk.window.print.text == "So: The Moon"
+    desk.act("take_back")
+    assert (desk.window.print.text, desk.window.message.text) == ("The Moon", GIVEN_UP)
+    assert _kept(desk) == (["So: The Moon"], "")
+
+
+def test_the_first_of_lines_that_is_refused_is_taken_back_and_not_lost(
+    desk: Desk, given: Answers
+) -> None:
+    given["choices"] = [0]
+    desk.window.print.put_caret(8)
+    _paste(desk, " #\nTwo.")
+    assert _kept(desk) == (["Two."], "The Moon #")
+    desk.act("take_back")
+    assert (desk.window.print.text, desk.window.message.text) == ("The Moon", GIVEN_UP)
+    assert _kept(desk) == (["The Moon #", "Two."], "")
+
+
+def test_a_text_that_no_key_typed_is_given_up_and_not_kept_for_a_moment(
+    desk: Desk,
+) -> None:
+    desk.window.print.setPlainText("The Moon rose.")
+    version = desk.contents.version
+    desk.act("take_back")
+    assert (desk.window.print.text, desk.window.message.text) == ("The Moon", GIVEN_UP)
+    assert desk.asked(desk.book.contents).version == version
+    assert _kept(desk) == (["The Moon rose."], "")
+
+
+@pytest.mark.parametrize("act", [None, "new_after"])
+def test_what_is_typed_is_not_taken_back_as_the_newest_correction(
+    desk: Desk, act: str | None
+) -> None:
+    if act:
+        desk.act(act)
+    _type(desk, "So: ")
+    typed, version = desk.window.print.text, desk.contents.version
+    desk.act("undo_here")
+    assert desk.window.message.text == (
+        "Nothing was taken back: what is typed isn't in the book yet. Enter keeps it, and Escape"
+        " gives it up."
+    )
+    assert desk.window.print.text == typed
+    assert desk.asked(desk.book.contents).version == version
+    desk.act("give_up")
+
+
+def test_a_text_is_not_lost_where_the_session_ends_before_it_is_in_its_place(
+    desk: Desk, first: None, monkeypatch: pytest.MonkeyPatch
+) -> None:
+    desk.put_by(EDIT)
+    reading = desk.book.reading
+
+    def killed(paragraph: Paragraph) -> ChosenParagraph:
+        monkeypatch.setattr(desk.book, "reading", reading)
+        os.kill(desk.book.pid, signal.SIGKILL)
+        return reading(paragraph)
+
+    monkeypatch.setattr(desk.book, "reading", killed)
+    desk.act("bring_back")
+    assert desk.window.message.text.endswith(
+        "A text of paragraph 2 isn't in the book. Ctrl+B brings it back."
+    )
+    assert _kept(desk) == ([EDIT.text], "")
+
+
+def test_a_text_is_not_lost_where_the_book_has_no_table_for_it(
+    tmp_path: Path, first: None
+) -> None:
+    new_book(book := tmp_path / "empty.braildesk")
+    Drafts(book).put_by(Draft(Aim.AFTER, None, None, "", "It rose.", None, 0))
+    desk = Desk(book, None, 0.0, PageSize())
+    desk.acts = Actions(desk).by_name
+    desk.begin()
+    desk.act("bring_back")
+    assert desk.window.message.text == (
+        "The book has no table yet. Ctrl+L puts one into it. Ctrl+B brings it back."
+    )
+    desk.close()
+    assert [each.text for each in Drafts(book).given_up()] == ["It rose."]
+
+
+@pytest.mark.parametrize(
+    "changed, said",
+    [
+        (requests.Correct(2, 0, 3, "That"), "The print there has been changed since."),
+        (requests.Move(2, 3), ""),
+    ],
+)
+def test_it_is_said_if_the_print_was_changed_since_a_text_was_given_up(
+    desk: Desk, first: None, changed: Command[object], said: str
+) -> None:
+    desk.put_by(EDIT)
+    desk.do(changed)
+    desk.say("")
+    desk.act("bring_back")
+    assert (desk.window.print.text, desk.window.message.text) == (EDIT.text, said)
+    desk.act("give_up")
+
+
+@pytest.mark.parametrize("answer, count", [(0, 3), (1, 1), (2, 0)])
+@pytest.mark.parametrize("is_offered", [True, False])
+def test_of_lines_that_are_typed_further_it_is_asked_whether_they_are_paragraphs(
+    desk: Desk, given: Answers, first: None, is_offered: bool, answer: int, count: int
+) -> None:
+    given["choices"] = [answer]
+    if is_offered:
+        given["choices"].insert(0, 0)
+        Drafts(desk.path).save(LINES)
+        desk.acting(Actions(desk).offer)
+    else:
+        desk.put_by(LINES)
+        desk.act("bring_back")
+    assert given["said"][-1] == "What was typed has 3 lines. Are they paragraphs?"
+    lines = ["One.", "Two.", "Three."]
+    if count == 3:
+        assert prints_of(desk)[1:4] == lines
+        assert _kept(desk) == ([], "")
+        return
+    assert len(prints_of(desk)) == 3
+    if count:
+        assert desk.window.print.text == " ".join(lines)
+        assert _kept(desk) == ([], " ".join(lines))
+        desk.act("give_up")
+    else:
+        assert desk.window.message.text == GIVEN_UP
+        assert _kept(desk) == ([LINES.text], "")
+
+
+def test_of_lines_of_which_the_first_goes_on_in_a_paragraph_that_is_said(
+    desk: Desk, given: Answers, first: None
+) -> None:
+    desk.put_by(Draft(Aim.EDIT, 2, "en", EDIT.before, "The moon.\nIt rose.", None, 5))
+    given["choices"] = [0]
+    desk.act("bring_back")
+    assert given["said"] == [
+        "What was typed has 2 lines. Are they paragraphs? The first goes on in paragraph 2."
+    ]
+    assert prints_of(desk)[1:3] == ["The moon.", "It rose."]
+
+
+def test_lines_wait_until_it_is_answered_what_they_are(
+    desk: Desk, first: None, monkeypatch: pytest.MonkeyPatch
+) -> None:
+    waited: list[tuple[list[str], str]] = []
+
+    def choice(*_: object) -> int:
+        waited.append(_kept(desk))
+        desk.is_ending = True
+        return 2
+
+    monkeypatch.setattr(dialogs, "choice", choice)
+    desk.put_by(LINES)
+    desk.act("bring_back")
+    # and also where the window is ended then
+    assert waited == [([], LINES.text)]
+    assert _kept(desk) == ([], LINES.text)
+
+
+def test_the_caret_goes_to_the_words_of_a_note_that_is_brought_back(
+    desk: Desk, first: None, monkeypatch: pytest.MonkeyPatch
+) -> None:
+    asked: list[str] = []
+
+    def further(over: object, title: str, sentence: str, *_: object) -> str:
+        asked.append(sentence)
+        return "who?"
+
+    monkeypatch.setattr(dialogs, "text_further", further)
+    before = "Twice a day the sea comes up."
+    cells = desk.asked(lambda: desk.book.cells_of(3, Span(16, 19)))
+    desk.put_by(Draft(Aim.NOTE, 3, "en", before, "who?", cells, 5))
+    desk.window.cells.setFocus()
+    desk.act("bring_back")
+    assert asked == ["The note of a mark on “sea”, cells 18 to 20:"]
+    assert (desk.number, desk.window.print.place, desk.in_hand) == (3, 16, 2)
+    assert desk.window.here.text.startswith("“s” ⠎, character 17, cell 18.")
+    assert desk.window.here.text.endswith("Mark 2, open, on “sea”: who?")
