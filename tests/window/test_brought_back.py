@@ -2,13 +2,14 @@
 
 import os
 import signal
+from dataclasses import replace
 from pathlib import Path
 
 import pytest
 from PyQt6.QtCore import QMimeData
 
 from braildesk import Paragraph, new_book, requests
-from braildesk.desk.draft import Aim, Draft
+from braildesk.desk.draft import Aim, Draft, Unread
 from braildesk.desk.drafts import Drafts
 from braildesk.desk.layout import PageSize
 from braildesk.protocol.requests import Command
@@ -289,3 +290,47 @@ def test_the_caret_goes_to_the_words_of_a_note_that_is_brought_back(
     assert (desk.number, desk.window.print.place, desk.in_hand) == (3, 16, 2)
     assert desk.window.here.text.startswith("“s” ⠎, character 17, cell 18.")
     assert desk.window.here.text.endswith("Mark 2, open, on “sea”: who?")
+
+
+def test_a_text_that_waits_is_offered_also_where_one_beside_the_book_is_none(
+    desk: Desk, given: Answers
+) -> None:
+    Drafts(desk.path).save(EDIT)
+    beside = desk.path.with_name(f"{desk.path.name}-unsent")
+    beside.write_text("It is no such text.")
+    given["choices"] = [2]
+    desk.acting(Actions(desk).offer)
+    assert given["said"][0].startswith("A text of paragraph 2 was typed and isn't in")
+    said = desk.window.message.text
+    assert said.startswith("The text waits for the next opening.")
+    assert f"{beside} isn't taken as a text that waits for the book" in said
+    _type(desk, "So: ")
+    assert _kept(desk) == ([EDIT.text], "So: The Moon")
+    desk.act("give_up")
+
+
+def test_a_text_that_waits_is_not_lost_where_the_session_ends_before_it_is_offered(
+    desk: Desk,
+) -> None:
+    Drafts(desk.path).save(replace(EDIT, version=3))
+    os.kill(desk.book.pid, signal.SIGKILL)
+    desk.acting(Actions(desk).offer)
+    assert desk.window.message.text.startswith("The session was ended by signal 9.")
+    assert _kept(desk) == ([], EDIT.text)
+    # another text is kept besides, and Ctrl+B has it before the next opening
+    _type(desk, "So: ")
+    assert _kept(desk) == ([EDIT.text], "So: The Moon")
+    desk.act("give_up")
+    assert [each.text for each in desk.unsent.texts()] == [EDIT.text, "So: The Moon"]
+
+
+def test_what_waits_is_all_said_at_the_opening(desk: Desk) -> None:
+    drafts = Drafts(desk.path)
+    drafts.keep_words("sea", "ocean")
+    aside = Draft(Aim.AFTER, 1, "en", "", "It rose.", None, 5)
+    drafts.keep_unread(Unread("", aside))
+    desk.acting(Actions(desk).offer)
+    assert desk.window.message.text == (
+        "What came while braildesk didn't answer is set aside: “It rose.”. Ctrl+B brings it back."
+        " “sea” was to be changed to “ocean”, which may not be done. Ctrl+H has the words still."
+    )

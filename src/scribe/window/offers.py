@@ -17,11 +17,9 @@ from scribe.window.typed import Typed
 from scribe.words.change_all import STAY, cut_short
 from scribe.words.drafts import (
     came_last,
-    changed_since,
     not_kept,
     taken_back_in_part,
     what_for,
-    without_paragraph,
     where_typed,
     words_wait,
 )
@@ -42,17 +40,11 @@ class Offers:
 
     def offer(self) -> None:
         """Asks about a text that waits from before, and about imports that were cut short."""
-        desk = self.desk
-        try:
-            # at once, before anything is kept of what is pressed meanwhile
-            desk.aside.result(self._read)
-        except NotKept as fault:
-            desk.say(not_kept(fault))
-        if desk.unsent.came_last:
-            desk.say(f"{came_last(desk.unsent.came_last)} Ctrl+B brings it back.")
-        words = desk.aside.result(desk.drafts.words)
-        if words is not None and all(words):
-            desk.say(f"{words_wait(words)} Ctrl+H has the words still.")
+        desk, notices = self.desk, self._read()
+        if notices:
+            desk.say(notices)
+        # until it is answered, whatever comes between
+        desk.unsent.put_off()
         contents, session = desk.contents, desk.book.session
         numbers = {each.id for each in contents.paragraphs}
         desk.asked(
@@ -60,9 +52,11 @@ class Offers:
                 lambda its: session.print_of(its) if its in numbers else None
             )
         )
+        desk.unsent.put_off()
         waiting = desk.unsent.waiting
         if waiting is not None:
             self._offer_text(waiting)
+            desk.say_too(notices)
         contents = desk.contents
         found = desk.asked(
             lambda: to_go_on(desk.drafts, desk.book.session, contents.paragraphs)
@@ -73,10 +67,26 @@ class Offers:
                     desk.say(came_to(each))
                     self._files.decide(Path(each.note.text), PartIsThere(each), True)
                 case NotSeen():
-                    desk.say(not_seen(each))
+                    desk.say_too(not_seen(each))
                 case NotKept():
-                    desk.say(not_kept(each))
+                    desk.say_too(not_kept(each))
         self._offer_changes()
+
+    def _read(self) -> str:
+        """Reads what waits from before, and gives what is said of it before anything is asked."""
+        desk, said = self.desk, list[str]()
+        # at once, before anything is kept of what is pressed meanwhile
+        for read in (desk.drafts.take_in, desk.unsent.read):
+            try:
+                desk.aside.result(read)
+            except NotKept as fault:
+                said.append(not_kept(fault))
+        if desk.unsent.came_last:
+            said.append(f"{came_last(desk.unsent.came_last)} Ctrl+B brings it back.")
+        words = desk.aside.result(desk.drafts.words)
+        if words is not None and all(words):
+            said.append(f"{words_wait(words)} Ctrl+H has the words still.")
+        return " ".join(said)
 
     def _offer_changes(self) -> None:
         """Asks about words whose change was cut short, and says how far a taking back came that was."""
@@ -100,11 +110,6 @@ class Offers:
             desk.say(STAY)
         desk.say_too(aside)
 
-    def _read(self) -> None:
-        """Reads what waits from before."""
-        self.desk.drafts.take_in()
-        self.desk.unsent.read()
-
     def _offer_text(self, waiting: Draft) -> None:
         desk = self.desk
         contents = desk.contents
@@ -112,6 +117,7 @@ class Offers:
         if where:
             rest = desk.asked(lambda: desk.book.unkept(contents, waiting))
             if rest is None:
+                desk.unsent.take_on()
                 desk.keep_draft(None)
                 desk.say(
                     f"What was typed last is in the book, {where}: {quoted(waiting.text)}."
@@ -120,26 +126,19 @@ class Offers:
             waiting = rest
         asked = (
             f"{what_for(waiting)} was typed and isn't in the book: {quoted(waiting.joined)}."
-            f"{where_typed(desk.unsent.typed_at)}{self._changed(waiting)}"
+            f"{where_typed(desk.unsent.typed_at)}{self._typed.changed_since(waiting)}"
             " Shall it be typed further?"
         )
         answers = ("&Type it further", "&Give it up", "&Later")
         answer, aside = desk.offered("Unsent text", asked, answers)
+        if answer < 2:
+            desk.unsent.take_on()
         if answer == 0:
             self._typed.type_further(waiting)
         elif answer == 1:
             desk.say(f"Given up. The book is as it was. {desk.put_by(waiting)}")
         else:
-            desk.unsent.put_off()
             desk.say(
                 "The text waits for the next opening. Ctrl+B asks about it before."
             )
         desk.say_too(aside)
-
-    def _changed(self, waiting: Draft) -> str:
-        """That the print at which a text was typed is another since, or isn't there; or nothing."""
-        desk, row = self.desk, self.desk.contents.place(waiting.paragraph)
-        if row is None:
-            return without_paragraph(waiting)
-        session, number = desk.book.session, desk.contents.paragraphs[row].id
-        return changed_since(waiting, desk.asked(lambda: session.print_of(number)))

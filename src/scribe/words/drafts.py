@@ -284,6 +284,10 @@ class Unsent:
         """Leaves the text that waits for later."""
         self._later = self.waiting
 
+    def take_on(self) -> None:
+        """The text that was left for later isn't any more: it is typed further, or nobody wants it."""
+        self._later = None
+
     def take_up(self, draft: Draft, text: str) -> None:
         """Has a text be typed further, which was given up or left for later; may raise `NotKept`."""
         self._forget(text)
