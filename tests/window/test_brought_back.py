@@ -17,7 +17,7 @@ from braildesk.text.spans import Span
 
 from scribe.window import dialogs
 from scribe.window.actions import Actions
-from scribe.window.book import ChosenParagraph
+from scribe.window.book import ChosenParagraph, Contents, NotAll
 from scribe.window.desk import Desk
 
 from conftest import Answers
@@ -334,3 +334,77 @@ def test_what_waits_is_all_said_at_the_opening(desk: Desk) -> None:
         "What came while braildesk didn't answer is set aside: “It rose.”. Ctrl+B brings it back."
         " “sea” was to be changed to “ocean”, which may not be done. Ctrl+H has the words still."
     )
+
+
+def _ends_each_time(desk: Desk, monkeypatch: pytest.MonkeyPatch, name: str) -> None:
+    """Has the session end each time that it is asked for something."""
+    ask = getattr(desk.book, name)
+
+    def killed(*words: object) -> object:
+        os.kill(desk.book.pid, signal.SIGKILL)
+        return ask(*words)
+
+    monkeypatch.setattr(desk.book, name, killed)
+
+
+@pytest.mark.parametrize("name", ["reading", "by_character"])
+@pytest.mark.parametrize("act", ["", "new_after"])
+def test_what_is_typed_is_not_lost_where_the_session_ends_again_and_again(
+    desk: Desk, monkeypatch: pytest.MonkeyPatch, name: str, act: str
+) -> None:
+    if act:
+        desk.act(act)
+    _type(desk, "So: ")
+    typed = desk.window.print.text
+    with monkeypatch.context() as patched:
+        _ends_each_time(desk, patched, name)
+        os.kill(desk.book.pid, signal.SIGKILL)
+        desk.act("keep")
+    assert desk.is_closed
+    said = desk.window.message.text
+    assert said.startswith("The session was ended by signal 9.")
+    assert said.endswith(f"What is typed is kept in {desk.drafts.place}.")
+    assert _kept(desk) == ([], typed)
+    desk.act("open_again")
+    assert desk.window.message.text.endswith(
+        " isn't in the book. Ctrl+B brings it back."
+    )
+    assert _kept(desk) == ([typed], "")
+
+
+def test_nothing_can_be_typed_where_the_session_ended_before_a_paragraph_was_shown(
+    desk: Desk, monkeypatch: pytest.MonkeyPatch
+) -> None:
+    said = "It can't be opened now."
+    with monkeypatch.context() as patched:
+        patched.setattr(desk.book, "open_after", lambda *_: (None, [said]))
+        os.kill(desk.book.pid, signal.SIGKILL)
+        desk.acting(lambda: desk.choose(2))
+    assert (desk.window.message.text, desk.is_closed) == (said, True)
+    field = desk.window.print
+    assert field.isReadOnly() and not field.text
+    field.typed_on.emit("x")
+    assert desk.window.message.text == (
+        "The book is closed: Open the book again, in the menu Book, opens it. Nothing was typed."
+    )
+    desk.act("open_again")
+    assert (desk.number, field.text) == (3, "Twice a day the sea comes up.")
+
+
+def test_the_session_may_end_before_it_is_shown_what_of_much_was_taken_back(
+    desk: Desk, given: Answers, monkeypatch: pytest.MonkeyPatch
+) -> None:
+    contents = desk.book.contents
+
+    def killed() -> Contents:
+        monkeypatch.setattr(desk.book, "contents", contents)
+        os.kill(desk.book.pid, signal.SIGKILL)
+        return contents()
+
+    def stopped() -> None:
+        monkeypatch.setattr(desk.book, "contents", killed)
+        raise NotAll(1, KeyboardInterrupt())
+
+    desk.acting(stopped)
+    assert desk.window.message.text.startswith("The session was ended by signal 9.")
+    assert not desk.is_closed

@@ -108,6 +108,8 @@ class Desk:
     is_closed = False
     #: How the session ended, in sentences, until the book is open again.
     loss = ""
+    # the book is being opened after its session ended
+    _is_opening_again = False
     # what had the focus before the program was waited for, while that is said
     _waits_from: QWidget | None = None
     # the print as it was before a dialog was opened, with its caret
@@ -297,8 +299,9 @@ class Desk:
         except NotAll as part:
             cause = part.cause
             why = cause.reason if isinstance(cause, Refused) else "Stopped."
-            self.show(self.asked(self.book.contents), None)
-            self.refuse(f"{part.done:,} done. {why}")
+            with self.failures():
+                self.show(self.asked(self.book.contents), None)
+                self.refuse(f"{part.done:,} done. {why}")
 
     def asked(self, act: Callable[[], Result]) -> Result:
         """What comes of something in the thread of the session."""
@@ -398,7 +401,7 @@ class Desk:
     def _why_not_typed(self) -> str:
         """Why nothing can be typed in the print."""
         if self.reading is None:
-            return NO_PARAGRAPH
+            return CLOSED if self.is_closed else NO_PARAGRAPH
         its = self.reading.its.paragraph
         return f"Paragraph {its.id} {STRUCK if its.struck else _NOT_SHOWN}"
 
@@ -1173,22 +1176,37 @@ class Desk:
     def after_loss(self, lost: Lost) -> None:
         """Opens the book again, and says what it has. What is typed stays typed."""
         self.unwatch()
+        if self._is_opening_again:
+            # it ended again before all was shown, and would at each further time
+            raise lost
         self.wait_for_draft()
+        self._is_opening_again = True
         try:
             begun = self.contents.version
             found, said = self.work.result(lambda: self.book.open_after(lost, begun))
+            if found is not None:
+                said.append(self.taken_again(found))
         except (DeskError, OSError) as failed:
             found, said = None, [lost.sentence, str(failed)]
+        finally:
+            self._is_opening_again = False
         if found is None:
-            self.is_closed, self.loss = True, " ".join(said)
-            more = self._what_is_typed(lost)
-            self._follow(lost)
-            # the place says no more of the book, and of what is typed not that Enter keeps it
-            self.link()
-            self.refuse(" ".join([*said, *more]))
-            return
-        said.append(self.taken_again(found))
-        self.refuse(" ".join(filter(None, said)))
+            self._be_closed(lost, said)
+        else:
+            self.refuse(" ".join(filter(None, said)))
+
+    def _be_closed(self, lost: Lost, said: Sequence[str]) -> None:
+        """Says why the book isn't open any more, and where what is typed is."""
+        self.unwatch()
+        self.is_closed, self.loss = True, " ".join(said)
+        more = self._what_is_typed(lost)
+        self._follow(lost)
+        if self.reading is None and self.new is None:
+            # it ended before a paragraph was shown, and nothing could be typed in this one
+            self.show_reading(0)
+        # the place says no more of the book, and of what is typed not that Enter keeps it
+        self.link()
+        self.refuse(" ".join([*said, *more]))
 
     def _what_is_typed(self, lost: Lost) -> Sequence[str]:
         """Says where what is typed is, if anything is, once the book is closed."""
@@ -1238,9 +1256,11 @@ class Desk:
         place, beside = self.window.print.place, self.beside
         if draft is not None:
             draft = self.asked(partial(self.book.unkept, contents, draft))
-        self.beside = None
+        # the session may end again before this is in its place
+        self.beside = draft
         self.window.model.all_unread()
         self.show(contents, number)
+        self.beside = None
         if draft is None:
             self.keep_draft(None)
             return ""
