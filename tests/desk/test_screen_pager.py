@@ -57,6 +57,22 @@ def test_a_key_goes_from_one_line_of_a_list_to_the_next_however_many_rows_it_has
     assert beside(pages, SMALL, -1) == pages
 
 
+def test_a_line_that_is_gone_to_is_seen_to_its_end() -> None:
+    long = "mark {} stands on words with a longer note"
+    pages = Pages("All lines.", ("mark 1", *map(long.format, range(2, 8))))
+    for number in range(1, 7):
+        found = seen(at_line(pages, SMALL, number), SMALL)
+        assert found.lines[found.cursor - len(found.head) + 1] == "note"
+
+
+def test_after_the_last_line_of_a_list_there_is_none_to_go_to() -> None:
+    long = "mark {} stands on words with a longer note"
+    pages = Pages("All lines.", ("mark 1", *map(long.format, range(2, 6))))
+    for keys in ("", "down"):
+        there = pressed(at_line(pages, SMALL, 4), SMALL, keys)
+        assert beside(there, SMALL, 1) == there
+
+
 def test_the_lines_stay_where_they_are_while_they_are_read() -> None:
     pages, tops = LINES, []
     for _ in range(25):

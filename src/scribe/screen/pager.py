@@ -49,25 +49,27 @@ def seen(pages: Pages, size: Size) -> Seen:
 
 
 def at_line(pages: Pages, size: Size, number: int) -> Pages:
-    """The lines with the cursor on one of them, counted from 0, which is seen."""
-    before = replace(pages, lines=pages.lines[:number])
-    return _at(pages, size, len(_wrapped(before, size)))
-
-
-def beside(pages: Pages, size: Size, by: int) -> Pages:
-    """The lines with the cursor on the front of the next one or the one before, however long it is.
+    """The lines with the cursor on the front of one of them, counted from 0, however long it is.
 
     All of that line is seen, if there is room for it.
     """
-    number = min(_number(pages, size) + by, len(pages.lines) - 1)
-    if number < 0:
-        return _at(pages, size, HEAD_LINE)
-    moved = at_line(pages, size, number)
+    before = replace(pages, lines=pages.lines[:number])
+    moved = _at(pages, size, len(_wrapped(before, size)))
     end = moved.place + len(wrap(visible(pages.lines[number]), size.columns))
     if end <= moved.top + _most(pages, size):
         return moved
     last = len(_wrapped(pages, size)) - _most(pages, size)
     return replace(moved, top=max(0, min(moved.place, last)))
+
+
+def beside(pages: Pages, size: Size, by: int) -> Pages:
+    """The lines with the cursor on the front of the next one or the one before, if there is one."""
+    number = _number(pages, size) + by
+    if number >= len(pages.lines):
+        return pages
+    if number < 0:
+        return _at(pages, size, HEAD_LINE)
+    return at_line(pages, size, number)
 
 
 def _number(pages: Pages, size: Size) -> int:
