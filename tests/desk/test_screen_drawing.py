@@ -13,7 +13,9 @@ from braildesk.text.wrapping import columns
 from scribe.screen.desk import with_preview
 from scribe.screen.drawing import Drawing, draw
 from scribe.screen.field import Field, Purpose
+from scribe.screen.keys import step
 from scribe.screen.lines import HIGHLIGHTED, MARKED, rows
+from scribe.screen.question_rows import moved
 from scribe.screen.state import Opening, Pages, Pane, Question, Size, State
 from scribe.words.preview import Preview
 
@@ -319,6 +321,43 @@ def test_two_lines_show_what_is_asked_looked_at_or_said_at_the_cursor() -> None:
         drawn = draw(shown)
         assert drawn.texts() == ["Paragraph 1, body, last kept: mark 1", line]
         assert drawn.cursor == (1, 0)
+
+
+@pytest.mark.parametrize("count", range(1, 8))
+def test_keys_go_through_a_question_that_has_no_room(count: int) -> None:
+    words = " ".join(f"It has word {n} of many." for n in range(1, 21))
+    asked = Question(f"{words} Shall it be typed further?", more="l leaves it.")
+    state = replace(STATE, size=Size(40, count), question=asked).saying("Opened again.")
+    looked, read = moved(state, "home"), [""]
+    while looked is not None and len(read) < 30:
+        drawn = draw(looked)
+        assert len(drawn.lines) == count
+        read.append(drawn.texts()[drawn.cursor[0]].removesuffix("…"))
+        looked = moved(looked, "down")
+    title, said, *rows = dict.fromkeys(read[1:])
+    assert title == "Paragraph 1, body, last kept: mark 1"
+    assert said == "Opened again."
+    assert " ".join(rows) == f"{asked.sentence} y is yes, n is no. l leaves it."
+
+
+def test_a_question_is_read_from_its_front_where_little_of_it_is_seen() -> None:
+    words = "It rose over the old stone pier, and it set. Shall it be typed further?"
+    state = replace(STATE, size=Size(40, 2), question=Question(words))
+    assert draw(state).texts() == [
+        "Paragraph 1, body, last kept: mark 1",
+        "It rose over the old stone pier, and it…",
+    ]
+    # any other key begins anew
+    below = moved(state, "end")
+    assert below is not None
+    assert draw(below).texts() == [
+        "set. Shall it be typed further? y is",
+        "yes, n is no.",
+    ]
+    again = step(below, "x").state
+    assert draw(again).texts()[1] == "That key is no answer to the question.…"
+    assert again.message.endswith(" Up and Down go through it.")
+    assert moved(replace(state, size=Size(80, 24)), "down") is None
 
 
 def test_two_lines_show_what_is_typed_until_a_key_has_something_said() -> None:

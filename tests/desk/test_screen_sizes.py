@@ -6,6 +6,8 @@ from pathlib import Path
 import pytest
 
 from braildesk import Session
+from braildesk.desk.draft import Aim, Draft
+from braildesk.desk.drafts import Drafts
 from braildesk.pipe import Pipe
 
 from scribe.screen.drawing import draw
@@ -132,6 +134,10 @@ def test_few_lines_show_how_a_question_is_answered_and_the_line_of_a_list(
 ) -> None:
     sat = sit(moon, size=Size(40, lines))
     sat.press("o", *"It rose.", "escape", "U")
+    if lines == 2:
+        # what was kept, and the front of the question, which goes on below
+        assert sat.lines[1] == "1 of 1. A text of a new paragraph was…"
+        sat.press("down")
     assert "y is yes, n is no." in " ".join(sat.lines)
     assert len(draw(sat.state).lines) == lines
     sat.press("n", "M")
@@ -139,6 +145,47 @@ def test_few_lines_show_how_a_question_is_answered_and_the_line_of_a_list(
     sat.press("home")
     what = "Lines 1 to " if lines > 3 else "2 lines."
     assert of_cursor(sat)[0].startswith(f"1 open mark. {what}")
+
+
+def test_a_question_is_read_whole_on_two_lines_and_on_one(moon: Path, at: Open) -> None:
+    Drafts(moon).save(Draft(Aim.EDIT, 2, "en", "The Tides", "The tides of the sea"))
+    asked = (
+        "A text of paragraph 2 was typed and isn't in the book: “The tides of the sea”. Shall it be"
+        " typed further? y is yes, n is no. l leaves it for later."
+    )
+    for lines in (2, 1):
+        terminal = at(moon, 40, lines)
+        terminal.wait("A text of paragraph 2 was typed and…")
+        read = ["A text of paragraph 2 was typed and"]
+        while not read[-1].endswith("for later."):
+            terminal.keys("down")
+            terminal.settle()
+            line = terminal.lines[terminal.cursor[0]]
+            read.append(line.removesuffix("…"))
+        assert " ".join(read) == asked
+        terminal.keys("home")
+        terminal.wait("Paragraph 2, body, nothing kept yet")
+        terminal.answer("l")
+        terminal.wait("The text waits for the next opening. U…")
+        terminal.keys("q")
+        assert terminal.ended() == 0
+
+
+def test_what_was_kept_is_said_on_one_line(moon: Path, at: Open) -> None:
+    terminal = at(moon, 40, 1)
+    terminal.wait("The moon is far away.")
+    terminal.keys("enter", "O", "h", " ", "enter")
+    terminal.wait("Kept: correction 2 of paragraph 1.")
+    terminal.keys("s")
+    terminal.wait("Kept: paragraph 1 struck.")
+    terminal.keys("u")
+    terminal.wait("Kept: paragraph 1 restored. Taken back:…")
+    terminal.keys("o", "I", "t", "enter")
+    terminal.wait("Kept: paragraph 4.")
+    terminal.keys("A")
+    terminal.wait("A")
+    terminal.keys("escape", "q")
+    assert terminal.ended() == 0
 
 
 def test_a_terminal_of_three_lines_shows_what_is_said(moon: Path, at: Open) -> None:

@@ -35,6 +35,7 @@ from scribe.screen import (
     lists,
     pager,
     pasted_lines,
+    question_rows,
     typing_keys,
     whole_book,
 )
@@ -223,10 +224,14 @@ class Desk:
 
     def press(self, state: State, key: str) -> State:
         """The state after a key, once what it asks for was answered."""
-        asked = state.question.draft if state.question else None
+        looked = question_rows.moved(state, key)
+        if looked is not None:
+            # what was said is among what is looked at
+            return looked
+        draft = state.question.draft if state.question else None
         found = self._taken(keys.step(state, key))
-        if asked is not None and found.typed is not None:
-            found = self._taken_up(found, asked)
+        if draft is not None and found.typed is not None:
+            found = self._taken_up(found, draft)
         listed = listed_places(state)
         if key in _LEAVE and listed is not None and listed_places(found) is None:
             self._end_change(listed.wanted)

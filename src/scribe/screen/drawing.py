@@ -12,7 +12,7 @@ from braildesk.text.characters import code_and_name, visible
 from braildesk.text.excerpt import opening
 from braildesk.text.wrapping import columns, wrap
 
-from scribe.screen import pager
+from scribe.screen import pager, question_rows
 from scribe.screen.body import body
 from scribe.words.encoding import has
 from scribe.screen.actions import ChangePlaces, SetVolumes
@@ -96,6 +96,8 @@ class Drawing:
 
 def draw(state: State) -> Drawing:
     """The screen: a title, the book and the chosen paragraph, and what is said below."""
+    if state.size.lines < 2 and (state.question is None or state.is_lost):
+        return _on_one_line(state)
     bottom = _bottom(state)
     room = max(0, state.size.lines - 1 - len(bottom.lines))
     areas = [Area([_title(state)]), _above(state, room), bottom]
@@ -108,6 +110,13 @@ def draw(state: State) -> Drawing:
     # where there is no room for the title, what is asked is seen
     over = max(0, len(lines) - state.size.lines)
     return Drawing(tuple(lines[over:]), (cursor[0] - over, cursor[1]))
+
+
+def _on_one_line(state: State) -> Drawing:
+    """The line of the cursor, as it is on two."""
+    whole = draw(replace(state, size=Size(state.size.columns, 2)))
+    line, place = whole.cursor
+    return Drawing((whole.lines[line],), (0, place))
 
 
 def _above(state: State, room: int) -> Area:
@@ -249,17 +258,17 @@ def _prompted(state: State, typed: Field) -> Area:
 
 def _asked(state: State, question: Question) -> Area:
     """A question after what is said, on all lines but the first if it needs them."""
+    found = question_rows.part(state, question)
+    if found is not None:
+        return Area([(Run(row),) for row in found.rows], (found.cursor, 0))
     width, most = state.size.columns, state.size.lines - 1
-    how = f"y is yes, n is no. {question.more}".rstrip()
-    if question.is_typed_on:
-        how = f"Enter ends the last line, and then {how}"
-    asked = wrap(f"{visible(question.sentence)} {how}", width)
-    if len(asked) > most:
+    rows = wrap(question_rows.in_words(question), width)
+    if len(rows) > most:
         # how it is answered stands at its end
-        asked = [*_at_most(asked, most - 2, width), *asked[-2:]]
+        rows = [*_at_most(rows, most - 2, width), *rows[-2:]]
     # where it has no other room, what is said covers the title
-    room = max(most - len(asked), min(1, state.size.lines - len(asked)))
-    lines = [*_message(state, room), *asked]
+    room = max(most - len(rows), min(1, state.size.lines - len(rows)))
+    lines = [*_message(state, room), *rows]
     free = _own(state).count - len(lines)
     if free > 0:
         place = [] if state.pages else _place_lines(state)

@@ -101,7 +101,9 @@ def step(state: State, key: str) -> Step:
     if state.is_lost and key == "enter":
         return Step(state, OpenAgain())
     if state.question and not state.is_lost:
-        return answered(state, state.question, key)
+        # from here on it is read anew
+        question = replace(state.question, row=None)
+        return answered(replace(state, question=question), question, key)
     if key in _ASKS_FOR_KEYS and not state.is_lost:
         return Step(_with_help(state))
     if state.pages and not state.is_typing:

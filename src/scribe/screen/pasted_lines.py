@@ -163,7 +163,7 @@ def typed_on(state: State, typed: Field, question: Question, text: str) -> State
         return replace(state, typed=replace(typed, text="", place=0), question=None)
     if len(there) != sum(map(bool, question.lines)):
         question = about_lines(typed.purpose, there)
-    asked = replace(question, lines=tuple(lines), is_typed_on=bool(front))
+    asked = replace(question, lines=tuple(lines), is_typed_on=bool(front), row=None)
     return replace(state, question=replace(asked, end=End.NOTHING))
 
 

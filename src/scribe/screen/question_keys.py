@@ -5,6 +5,7 @@ from dataclasses import replace
 from braildesk import requests
 from braildesk.text.characters import control_refused
 
+from scribe.screen import question_rows
 from scribe.screen.actions import (
     Action,
     BringBack,
@@ -22,6 +23,7 @@ from scribe.screen.state import End, Question, State, Step
 from scribe.screen.typing_keys import is_character, no_table, table_of_new, while_typing
 
 _NO_ANSWER = "That key is no answer to the question."
+_READ_ON = "Up and Down go through it."
 _ASKED_LATER = "It is asked again when the book is opened."
 _STAYS_GIVEN_UP = "It stays given up. U asks about it again."
 _STAYS_TYPED = "It stays as it is typed. Enter asks again."
@@ -52,7 +54,14 @@ def answered(state: State, question: Question, key: str) -> Step:
             )
     if question.lines and state.typed is not None:
         return _about_lines(state, state.typed, question, key)
-    return Step(replace(state, question=question).saying(_NO_ANSWER))
+    return _no_answer(replace(state, question=question))
+
+
+def _no_answer(state: State) -> Step:
+    """What is said of a key that is no answer, with the keys that show what there is no room for."""
+    state = state.saying(_NO_ANSWER)
+    is_whole = question_rows.is_whole(state)
+    return Step(state if is_whole else state.saying_too(_READ_ON))
 
 
 def _about_lines(state: State, typed: Field, question: Question, key: str) -> Step:
@@ -77,7 +86,7 @@ def _about_lines(state: State, typed: Field, question: Question, key: str) -> St
     elif key == "backspace" and question.is_typed_on:
         key = "\x7f"
     elif not is_character(key):
-        return Step(asked.saying(_NO_ANSWER))
+        return _no_answer(asked)
     return Step(typed_on(asked, typed, question, key))
 
 
@@ -98,7 +107,7 @@ def _about_errand(
         return Step(answered.saying(f"{nothing} {_ASKED_LATER}"))
     if key in ("n", "escape"):
         return Step(answered.saying(nothing))
-    return Step(state.saying(_NO_ANSWER))
+    return _no_answer(state)
 
 
 def _about_text(state: State, question: Question, draft: Field, key: str) -> Step:
@@ -116,7 +125,7 @@ def _about_text(state: State, question: Question, draft: Field, key: str) -> Ste
             chosen, place, pane = question.came_from
             state = replace(state.at(chosen, place), pane=pane)
         return Step(replace(state, anchor=None).saying(_STAYS_GIVEN_UP))
-    return Step(asked.saying(_NO_ANSWER))
+    return _no_answer(asked)
 
 
 def _taken_up(asked: State, draft: Field) -> Step:

@@ -88,6 +88,9 @@ class Question:
     #: Where the cursor was as U was pressed: the paragraph, the place and what that is in.
     came_from: tuple[int, int, Pane] | None = None
     more: str = ""
+    #: The row of the cursor while keys go through it, where there is no room for all of it: it is the
+    #: same question at each of them.
+    row: int | None = field(default=None, compare=False)
 
     @property
     def is_offer(self) -> bool:
@@ -353,9 +356,24 @@ class State:
         return again + self.message
 
     def after(self, before: "State") -> "State":
-        """The state after a key, which may have said the same as the one before it."""
-        is_again = self.message == before.message != ""
-        return replace(self, times=before.times + 1 if is_again else 1)
+        """The state after a key, which may have said the same as the one before it.
+
+        On one line, where no title says what was kept, that is said.
+        """
+        state = self._saying_kept(before) if self.size.lines < 2 else self
+        is_again = state.message == before.message != ""
+        return replace(state, times=before.times + 1 if is_again else 1)
+
+    def _saying_kept(self, before: "State") -> "State":
+        """The state in which it is said what was kept since another one, before what else is said."""
+        is_same = self.kept == before.kept
+        if (
+            not self.kept
+            or is_same
+            and (self.message or self.version == before.version)
+        ):
+            return self
+        return saying_first(f"Kept: {self.kept.removeprefix('kept: ')}.", self)
 
     def saying(self, sentence: str) -> "State":
         """The state with something to say."""

@@ -340,7 +340,7 @@ class Screen:
         """Takes the size of the terminal, which may have changed."""
         self._begin_work()
         found = self._app.output.get_size()
-        size = Size(max(10, found.columns), max(2, found.rows))
+        size = Size(max(10, found.columns), max(1, found.rows))
         if size == self.state.size:
             return
         before = self.state
@@ -574,11 +574,12 @@ class Screen:
             with suppress(RuntimeError):
                 loop.call_soon_threadsafe(self._say, line)
 
-        self._aside = self._worker.submit(self._desk.away, self.state, report)
+        begun = self.state
+        self._aside = self._worker.submit(self._desk.away, begun, report)
         # if the screen ends meanwhile, the work is waited for and not given up
         state = await asyncio.shield(asyncio.wrap_future(self._aside))
         self._desk.take_over()
-        self._become(state)
+        self._become(state.after(begun))
         waiting, self._waiting = self._waiting, []
         self._do(waiting)
         self._desk.keep_unread(None)
