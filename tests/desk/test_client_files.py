@@ -2464,6 +2464,56 @@ def test_a_new_book_in_a_folder_that_may_not_be_written_says_so(
     assert as_nobody(code, path) == DENIED.format(path)
 
 
+OF_NEW = """
+import sys
+import braildesk
+try:
+    print(braildesk.new_book(sys.argv[1]))
+except braildesk.DeskError as error:
+    print(error.sentence)
+"""
+
+
+@pytest.mark.parametrize(
+    "of_file, of_folder, what",
+    [
+        (
+            0o444,
+            0o755,
+            "The file {}read and write it. This lets you: chmod u+rw -- {file}",
+        ),
+        (0, 0o755, "The file {}read and write it. This lets you: chmod u+rw -- {file}"),
+        (
+            0o644,
+            0o555,
+            "Its folder {}read and write in it. This lets you: chmod u+rwx -- {folder}",
+        ),
+    ],
+)
+def test_of_a_file_of_ones_own_nobody_else_is_asked(
+    book: Path, open_folder: Path, of_file: int, of_folder: int, what: str
+) -> None:
+    folder = open_folder / "a folder"
+    folder.mkdir()
+    path = Path(shutil.copyfile(book, folder / "book"))
+    if os.getuid() == 0:
+        os.chown(path, 65534, 65534)
+        os.chown(folder, 65534, 65534)
+    path.chmod(of_file)
+    folder.chmod(of_folder)
+    said = what.format(
+        "is your own, and its permissions don't let you ",
+        file=f"'{path}'",
+        folder=f"'{folder}'",
+    )
+    (opened, *_) = as_nobody(ATTEMPTS, path, open_folder / "copied").splitlines()
+    made = as_nobody(OF_NEW, path if of_file != 0o644 else folder / "new")
+    front = "You aren't permitted to open “{}”. Nothing was changed. "
+    assert opened == front.format(path) + said
+    assert made.endswith(f" Nothing was changed. {said}")
+    folder.chmod(0o755)
+
+
 def test_a_copy_into_a_folder_that_may_not_be_entered_says_so(
     book: Path, open_folder: Path
 ) -> None:

@@ -92,6 +92,22 @@ def log_path(path: str) -> str:
     return f"{real_path(path)}-wal"
 
 
+def own_closed(path: str) -> str | None:
+    """The folder of a file, or the file, if it is this user's own and its mode lets them do less there.
+
+    Whoever may do everything is kept out by no mode.
+    """
+    file, user = real_path(path), os.geteuid()
+    for each, mode in ((os.path.dirname(file), 0o700), (file, 0o600)):
+        try:
+            found = os.stat(each)
+        except OSError:
+            return None
+        if user and found.st_uid == user and found.st_mode & mode != mode:
+            return each
+    return None
+
+
 def journal_path(path: str) -> str:
     """The journal of another program at a book's file: no book has one."""
     return f"{real_path(path)}-journal"

@@ -159,10 +159,9 @@ UNOPENED = MappingProxyType(
         Why.FOLDER: "{path} is a folder and no file. Give the path of a file in it.",
         Why.NO_FILE: "{path} is a pipe, a socket, a device or a part of the system, and no file. It was"
         " not opened. Give the path of a file.",
-        Why.DENIED: "You aren't permitted to open {path}. {nothing} Ask who owns it"
-        " for leave to read and write it and to write in its folder.",
+        Why.DENIED: "You aren't permitted to open {path}. {nothing} {leave}",
         Why.LOG_DENIED: "You aren't permitted to read and write {log}, in which the newest work of"
-        " {path} is looked for. {nothing} Ask who owns {log}, or an administrator, for leave to do so.",
+        " {path} is looked for. {nothing} {leave_of_log}",
         Why.LOG_OPEN: "{log}, in which the newest work of {path} is looked for, may be written by people"
         " who may not write the book, as after a change of its permissions. They may have put"
         " something else there. {nothing} If you know that the work is yours, take it by this command,"

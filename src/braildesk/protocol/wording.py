@@ -15,6 +15,8 @@ from braildesk.protocol.asked import (
     TableFile,
     journal_path,
     log_path,
+    own_closed,
+    real_path,
 )
 from braildesk.protocol.codes import Code
 from braildesk.protocol.fields import plain
@@ -191,6 +193,26 @@ class _Fields:
             case BookFile(path=path) | NewBook(path=path):
                 return shortened(path, len(path))
         return "This file"
+
+    @property
+    def leave(self) -> str:
+        """Who is asked for leave to use a file, or how one's own is used again."""
+        named = self._asked.path if isinstance(self._asked, AskedOfFile) else ""
+        closed = own_closed(named)
+        if closed is None:
+            return "Ask who owns it for leave to read and write it and to write in its folder."
+        if closed == real_path(named):
+            return _own_closed("The file", "read and write it", "u+rw", closed)
+        return _own_closed("Its folder", "read and write in it", "u+rwx", closed)
+
+    @property
+    def leave_of_log(self) -> str:
+        """The same of the log beside the file of a book."""
+        path = self._asked.path if isinstance(self._asked, AskedOfFile) else ""
+        log = log_path(path)
+        if own_closed(log) == log:
+            return _own_closed("That file", "read and write it", "u+rw", log)
+        return f"Ask who owns {self.log}, or an administrator, for leave to do so."
 
     @property
     def log(self) -> str:
@@ -390,6 +412,14 @@ class _Fields:
             return f"{sentence}."
         has = len(self._refusal.shown)
         return f"{sentence}: it has {has:,} {what}{'' if has == 1 else 's'}."
+
+
+def _own_closed(what: str, do: str, mode: str, path: str) -> str:
+    """That a file or a folder of one's own is kept from one by its mode, and how that is changed."""
+    import shlex  # which few refusals need
+
+    command = visible(shlex.join(["chmod", mode, "--", path]))
+    return f"{what} is your own, and its permissions don't let you {do}. This lets you: {command}"
 
 
 def _text(asked: Asked) -> str:
