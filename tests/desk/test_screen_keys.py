@@ -48,6 +48,7 @@ from scribe.screen.state import (
     Target,
     draft_of,
 )
+from scribe.words.deeds import Deed
 
 PRINT = "The moon is far away."
 CELLS = "⠠⠞⠓⠑⠀⠍⠕⠕⠝⠀⠊⠎⠀⠋⠁⠗⠀⠁⠺⠁⠽⠲"
@@ -769,6 +770,12 @@ def test_a_size_of_pages_is_kept_and_what_is_none_is_typed_further() -> None:
         PageSize(),
         Field(Purpose.SIZE, "30 1", 4),
     )
+
+
+def test_u_names_no_deed_as_the_next_that_has_no_way_back_either() -> None:
+    resolved = [Deed(f"mark {number} was resolved") for number in (1, 2)]
+    said = step(replace(STATE, deeds=tuple(resolved)), "u").state.message
+    assert said == "The book has no way back from this: mark 2 was resolved."
 
 
 def test_no_other_key_answers_a_question() -> None:
