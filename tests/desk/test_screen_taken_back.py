@@ -287,6 +287,29 @@ def test_what_others_changed_meanwhile_is_not_taken_back(moon: Path, sit: Sit) -
     )
 
 
+@pytest.mark.parametrize("keys", ["x", "i"])
+def test_what_others_typed_meanwhile_is_no_import_of_this_one(
+    moon: Path, sit: Sit, keys: str
+) -> None:
+    def typed(line: str) -> None:
+        if not others:
+            with Session(moon) as session:
+                others.append(session.add_paragraph("end", "en", "The stars").id)
+
+    others: list[int] = []
+    sat = sit(moon)
+    # neither an export nor a text that isn't there puts anything into the book
+    sat.press("s", keys, *str(moon.parent / "not there" / "it"), "enter")
+    sat.state = sat.desk.away(sat.state, typed)
+    assert (others, sat.state.version) == ([4], 9)
+    assert sat.state.kept == "kept: paragraph 1 struck"
+    assert sat.state.pages is not None and sat.state.pages.lines[0] == (
+        "Another program changed the book meanwhile. It is at version 9 now, and is shown as it"
+        " is."
+    )
+    assert sat.state.deeds == ()
+
+
 def test_what_is_refused_midway_is_said_and_the_rest_is_taken_back_later(
     moon: Path, sit: Sit, monkeypatch: pytest.MonkeyPatch
 ) -> None:

@@ -200,7 +200,19 @@ def test_nothing_is_taken_back_after_another_program_changed_the_book(
     book.close()
     with Session(moon) as session:
         session.strike(2)
-    book.imported(before)
+    book.imported(before, 0)
+    with pytest.raises(NothingToTakeBack):
+        book.taken_back(lambda *_: None)
+
+
+def test_what_another_program_typed_is_not_taken_back_as_an_import(
+    book: OpenBook, moon: Path
+) -> None:
+    before = book.contents()
+    book.close()
+    with Session(moon) as session:
+        session.add_paragraph("end", "en", "The stars")
+    book.imported(before, 0)
     with pytest.raises(NothingToTakeBack):
         book.taken_back(lambda *_: None)
 
@@ -289,7 +301,7 @@ def test_what_was_kept_before_an_import_is_saved_from_the_session_after_it(
     before = book.opened()
     book.done(requests.Style(1, Style.HEADING))
     book.close()
-    book.imported(before)
+    book.imported(before, 0)
     moon.unlink()
     with pytest.raises(Displaced):
         book.close()

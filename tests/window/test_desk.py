@@ -28,7 +28,7 @@ from scribe.window.desk import Desk
 from scribe.window.held import Held
 from scribe.window.worker import Worker
 from scribe.words.console import Console
-from scribe.words.import_text import import_in_words
+from scribe.words.import_text import Outcome, import_in_words
 
 from conftest import wait
 
@@ -372,9 +372,10 @@ def test_what_an_import_did_is_said_also_if_another_program_has_the_book_after_i
     monkeypatch.setattr(dialogs, "report", lambda _, title, lines: shown.extend(lines))
     others: list[Session] = []
 
-    def then_opened_by_another(job: Import, *words: Any) -> None:
-        import_in_words(job, *words)
+    def then_opened_by_another(job: Import, *words: Any) -> Outcome:
+        outcome = import_in_words(job, *words)
         others.append(Session(job.book))
+        return outcome
 
     monkeypatch.setattr("scribe.window.files.import_in_words", then_opened_by_another)
     text = tmp_path / "tides.txt"
@@ -400,9 +401,9 @@ def test_what_an_import_did_is_said_also_if_the_session_after_it_ends(
     monkeypatch.setattr(dialogs, "report", lambda _, title, lines: shown.extend(lines))
     imported = OpenBook.imported
 
-    def then_killed(book: OpenBook, before: Contents) -> Contents:
+    def then_killed(book: OpenBook, before: Contents, count: int | None) -> Contents:
         monkeypatch.setattr(OpenBook, "imported", imported)
-        imported(book, before)
+        imported(book, before, count)
         os.kill(book.pid, signal.SIGKILL)
         if not is_there:
             desk.path.rename(tmp_path / "away")

@@ -26,6 +26,8 @@ class ActionResult:
     title: str
     lines: tuple[str, ...]
     kept: str = ""
+    #: How many paragraphs were imported, if that is known.
+    count: int | None = None
     #: What is asked before a text is imported that was imported before.
     question: Question | None = None
 
@@ -49,7 +51,8 @@ def done_in_background(
     """Does an action as the command of the same name does, until the check has it end."""
     shown, said = Heard(report), Heard(report)
     console = _Beside(BytesIO(), shown, said, check, tell=report)
-    question, kept = None, ""
+    what = "Export." if isinstance(action, ExportTo) else "Import."
+    ending = ActionResult(what, (), count=0)
     try:
         with in_sentences():
             if isinstance(action, ExportTo):
@@ -57,23 +60,22 @@ def done_in_background(
                     Job(path, action.folder, action.page_size, USUAL_WAIT), console
                 )
             else:
-                kept, question = _imported(path, action, console)
+                ending = _imported(path, action, console, ending)
     except Stop as stop:
         console.show(*stop.lines)
-    except DeskError as failed:
-        console.say(failed.sentence)
-    except Interrupted:
-        # it was said what became of it
-        pass
-    what = "Export." if isinstance(action, ExportTo) else "Import."
+    except (DeskError, Interrupted) as failed:
+        # of what was stopped it was said what became of it
+        console.say(*([failed.sentence] if isinstance(failed, DeskError) else ()))
+        if isinstance(action, ImportFrom):
+            ending = replace(ending, count=None)
     lines = (*shown.getvalue().splitlines(), *said.getvalue().splitlines())
-    return ActionResult(what, lines, kept, question)
+    return replace(ending, lines=lines)
 
 
 def _imported(
-    path: Path, action: ImportFrom, console: Console
-) -> tuple[str, Question | None]:
-    """What was kept by an import, or what is asked before it is done."""
+    path: Path, action: ImportFrom, console: Console, ending: ActionResult
+) -> ActionResult:
+    """The result with what was kept by an import, or what is asked before it is done."""
     job = Import(
         path,
         action.path,
@@ -83,10 +85,10 @@ def _imported(
         wait=USUAL_WAIT,
     )
     try:
-        _, kept = import_in_words(job, console)
+        outcome = import_in_words(job, console)
     except Undecided as undecided:
-        return "", question_about(undecided, action)
-    return kept, None
+        return replace(ending, question=question_about(undecided, action))
+    return replace(ending, kept=outcome.kept, count=outcome.count)
 
 
 def question_about(undecided: Undecided, action: ImportFrom) -> Question:

@@ -365,16 +365,18 @@ class Desk:
             return _closed(state, failed.reason, ending.lines)
         except OSError as failure:
             return _closed(state, of_system(failure), ending.lines)
-        if not ending.kept and len(state.book) > len(before.book):
+        new = len(state.book) - len(before.book)
+        if ending.count is None and new > 0:
             # an import that was cut short
-            count = len(state.book) - len(before.book)
-            what = "1 paragraph" if count == 1 else f"{count:,} paragraphs"
-            state = replace(state, kept=f"kept: {what} of the import")
+            what = f"{counted(new, 'paragraph')} of the import"
+            state = replace(state, kept=f"kept: {what}")
         if ending.question:
             state = replace(state, question=ending.question)
-        state = with_imported(before, state)
-        versions = state.version - before.version
-        more = deeds.changed_between(before.book, state.book, state.version, versions)
+        state = with_imported(before, state, ending.count)
+        commands = state.version - before.version
+        more = deeds.changed_between(
+            before.book, state.book, state.version, commands, ending.count
+        )
         lines = (*more, *ending.lines)
         if lines:
             state = replace(state, pages=Pages(ending.title, lines))

@@ -419,9 +419,10 @@ def done_by_one_key(state: State, before: int) -> State:
     return replace(state, deeds=(*state.deeds[:before], together(done)))
 
 
-def with_imported(before: State, after: State) -> State:
-    """The state with an import as a deed, if nothing else changed the book."""
-    deed = imported(before.book, after.book, after.version - before.version)
+def with_imported(before: State, after: State, count: int | None) -> State:
+    """The state with an import, of so many paragraphs if that is known, as a deed, if it was alone."""
+    commands = after.version - before.version
+    deed = imported(before.book, after.book, commands, count)
     return after if deed is None else replace(after, deeds=(*before.deeds, deed))
 
 

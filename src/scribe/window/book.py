@@ -472,11 +472,14 @@ class OpenBook:
         number = deed.paragraph or getattr(deed.back[-1], "paragraph", None)
         return Done(self.contents(), deed.sentence, number)
 
-    def imported(self, before: Contents) -> Contents:
-        """The book after an import, which is taken back at once if nothing else changed it."""
+    def imported(self, before: Contents, count: int | None) -> Contents:
+        """The book after an import, which is taken back at once if nothing else changed it.
+
+        It had so many paragraphs, if that is known.
+        """
         now = self.opened()
         commands = now.version - before.version
-        deed = deeds.imported(before.paragraphs, now.paragraphs, commands)
+        deed = deeds.imported(before.paragraphs, now.paragraphs, commands, count)
         if deed is not None:
             self._deeds = (*self._deeds, deed)
         elif now.version != before.version:

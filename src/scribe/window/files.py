@@ -91,7 +91,12 @@ class Files:
         folder = desk.path.absolute().parent / typed_path(typed)
         self._folder = folder
         job = Job(desk.path, folder, desk.page_size, USUAL_WAIT)
-        self._aside("Export", lambda console: export_in_words(job, console))
+
+        def act(console: Console) -> int:
+            export_in_words(job, console)
+            return 0
+
+        self._aside("Export", act, 0)
 
     def proof(self) -> None:
         """Asks for a file, and writes a proof there."""
@@ -162,7 +167,9 @@ class Files:
             job = replace(job, table=None, after="end")
         try:
             self._aside(
-                "Import", lambda console: import_in_words(job, console, None, _AGAIN)
+                "Import",
+                lambda console: import_in_words(job, console, None, _AGAIN).count,
+                None,
             )
         except Undecided as undecided:
             self.decide(path, undecided)
@@ -189,8 +196,14 @@ class Files:
             )
         desk.say_too(aside)
 
-    def _aside(self, title: str, act: Callable[[Console], object]) -> None:
-        """Does something with the session closed, and shows what was said of it."""
+    def _aside(
+        self, title: str, act: Callable[[Console], int | None], cut: int | None
+    ) -> None:
+        """Does something with the session closed, and shows what was said of it.
+
+        That gives how many paragraphs the book has by it, if that is known, and if it is cut short
+        they are so many.
+        """
         desk = self.desk
         before = desk.contents
         problems: list[Undecided] = []
@@ -204,11 +217,14 @@ class Files:
 
             heard = Heard(say)
             desk.book.close()
-            _told(act, _Beside(BytesIO(), heard, heard, check, tell=say), problems)
+            console = _Beside(BytesIO(), heard, heard, check, tell=say)
+            count = _told(act, console, problems, cut)
             done.extend(heard.getvalue().splitlines())
-            now = desk.book.imported(before)
+            now = desk.book.imported(before, count)
             book, commands = now.paragraphs, now.version - before.version
-            more = changed_between(before.paragraphs, book, now.version, commands)
+            more = changed_between(
+                before.paragraphs, book, now.version, commands, count
+            )
             return now, (*more, *done)
 
         try:
@@ -241,19 +257,28 @@ class Files:
 
 
 def _told(
-    act: Callable[[Console], object], console: Console, problems: list[Undecided]
-) -> None:
-    """Does something, and has what came of it said; what a person has to decide is put aside."""
+    act: Callable[[Console], int | None],
+    console: Console,
+    problems: list[Undecided],
+    cut: int | None,
+) -> int | None:
+    """Does something, and has what came of it said; what a person has to decide is put aside.
+
+    Gives what that gives, or this if it is cut short.
+    """
     try:
         with in_sentences():
             try:
-                act(console)
+                return act(console)
             except Undecided as undecided:
                 problems.append(undecided)
+                return 0
     except Stop as stop:
         console.say(*stop.lines)
+        return 0
     except DeskError as failed:
         console.say(failed.sentence)
     except Interrupted:
         # it was said what became of it
         pass
+    return cut

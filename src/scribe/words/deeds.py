@@ -124,17 +124,34 @@ def typed(numbers: Sequence[int], how: str) -> Deed:
 
 
 def imported(
-    before: Sequence[Paragraph], now: Sequence[Paragraph], commands: int
+    before: Sequence[Paragraph],
+    now: Sequence[Paragraph],
+    commands: int,
+    count: int | None,
 ) -> Deed | None:
-    """What an import did to a book, if so many commands were that and nothing else."""
+    """What an import did to a book, if so many commands were that and nothing else.
+
+    It had so many paragraphs, if that is known.
+    """
     there = {each.id for each in before}
     new = sorted(each.id for each in now if each.id not in there)
-    if not new or commands != commands_between(before, now):
+    if not new or not _are_of_import(before, now, commands, count):
         return None
     return typed(new, "imported")
 
 
-def commands_between(before: Sequence[Paragraph], now: Sequence[Paragraph]) -> int:
+def _are_of_import(
+    before: Sequence[Paragraph],
+    now: Sequence[Paragraph],
+    commands: int,
+    count: int | None,
+) -> bool:
+    """Whether so many commands were an import alone, of so many paragraphs if that is known."""
+    is_count = count is None or count == len(now) - len(before)
+    return is_count and commands == _commands_between(before, now)
+
+
+def _commands_between(before: Sequence[Paragraph], now: Sequence[Paragraph]) -> int:
     """How many commands an import was: one for each paragraph, heading and begin of a volume."""
     earlier = {each.id: each for each in before}
     count = 0
@@ -147,10 +164,17 @@ def commands_between(before: Sequence[Paragraph], now: Sequence[Paragraph]) -> i
 
 
 def changed_between(
-    before: Sequence[Paragraph], now: Sequence[Paragraph], version: int, commands: int
+    before: Sequence[Paragraph],
+    now: Sequence[Paragraph],
+    version: int,
+    commands: int,
+    count: int | None,
 ) -> tuple[str, ...]:
-    """What is said if a book, which is at a version now, had more commands than an import was."""
-    if commands == commands_between(before, now):
+    """What is said if a book, which is at a version now, had other commands than those of an import.
+
+    That had so many paragraphs, if that is known.
+    """
+    if _are_of_import(before, now, commands, count):
         return ()
     return (
         f"Another program changed the book meanwhile. It is at version {version:,} now, and is"

@@ -3,7 +3,7 @@
 import stat
 from collections.abc import Callable, Iterable, Iterator, Sequence
 from contextlib import contextmanager
-from dataclasses import replace
+from dataclasses import dataclass, replace
 from pathlib import Path
 from typing import TYPE_CHECKING
 
@@ -83,10 +83,20 @@ if TYPE_CHECKING:
 _AROUND = 50
 
 
+@dataclass(frozen=True)
+class Outcome:
+    """What became of an import: a command's status, and what was kept, if anything was."""
+
+    status: Status
+    kept: str
+    #: How many paragraphs of it the book has, if that is known.
+    count: int | None
+
+
 def import_in_words(
     job: Import, console: Console, report: Path | None = None, again: str = ""
-) -> tuple[Status, str]:
-    """Imports a text, and says what became of it: a command's status, and what was kept, if anything.
+) -> Outcome:
+    """Imports a text, and says what became of it.
 
     What a book can't hold of it is said before that, and all of it is written to a file, if one is
     named. If it was cut short, `again` says how to go on where that isn't by a command. Raises
@@ -103,17 +113,17 @@ def import_in_words(
             console.say(sentence, *_left(importer.job, intake, cut, again))
             if isinstance(cut.cause, KeyboardInterrupt):
                 raise Interrupted.after(cut.cause) from cut
-            return status, _part_kept(cut)
+            return Outcome(status, _part_kept(cut), cut.kept)
     if not typed.count:
         console.show(f"All of {job.text} is in the book now.")
-        return Status.DONE, f"the rest of {job.text.name}"
+        return Outcome(Status.DONE, f"the rest of {job.text.name}", 0)
     last = typed.first + typed.count - 1
     numbers = (
         f"number {last}" if typed.count == 1 else f"numbers {typed.first} to {last}"
     )
     kept = f"{_paragraphs(typed.count)} typed, {numbers}, by the table {typed.table}"
     console.show(f"{kept}.")
-    return Status.DONE, kept
+    return Outcome(Status.DONE, kept, typed.count)
 
 
 def _part_kept(cut: CutShort) -> str:

@@ -149,8 +149,7 @@ def run(arguments: Namespace, console: Console) -> Status:
     )
     if arguments.dry_run:
         return trial_in_words(job, console, arguments.report)
-    status, _ = import_in_words(job, console, arguments.report)
-    return status
+    return import_in_words(job, console, arguments.report).status
 
 
 def _how(arguments: Namespace) -> How:
