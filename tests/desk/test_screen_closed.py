@@ -238,6 +238,20 @@ def test_a_text_that_can_not_be_kept_at_the_end_is_said(moon: Path, at: Open) ->
     assert said.endswith(" This was typed: Oh, The moon is far away. ")
 
 
+def test_pasted_lines_that_can_not_be_kept_at_the_end_are_said(
+    moon: Path, at: Open
+) -> None:
+    terminal = at(moon, XDG_STATE_HOME="/proc/nowhere")
+    terminal.wait("? shows the keys.")
+    terminal.keys("o")
+    terminal.wait("New paragraph after paragraph 1")
+    terminal.paste("It rose.\nIt set.")
+    terminal.wait("Are they 2 paragraphs? y is yes, n is no.")
+    terminal.send_signal(signal.SIGTERM)
+    assert terminal.ended() == -signal.SIGTERM
+    assert terminal.said.endswith("This was typed:\nIt rose.\nIt set.\n")
+
+
 @pytest.mark.parametrize("is_seen", [True, False])
 def test_a_text_that_can_not_be_kept_is_said_beside_where_a_book_was_saved_without_it(
     moon: Path, at: Open, is_seen: bool

@@ -95,6 +95,7 @@ from scribe.screen.state import (
     at_paragraph,
     done_by_one_key,
     draft_of,
+    lines_typed,
     listed_places,
     saying_first,
     so_far,
@@ -674,11 +675,9 @@ class Desk:
     def _ended(self, state: State, *sentences: str, is_saved: bool = False) -> State:
         """What the screen says if the session ended and the book could not be opened again."""
         lines = list(sentences)
-        if state.typed is not None and state.typed.text:
-            lines += [
-                "This was typed, and was not reported as kept:",
-                visible(state.typed.text),
-            ]
+        if typed := lines_typed(state):
+            lines.append("This was typed, and was not reported as kept:")
+            lines += map(visible, typed)
         waiting = self._unsent.waiting
         if waiting is not None and waiting == draft_of(state):
             when = "that new file is opened" if is_saved else "the book is opened again"

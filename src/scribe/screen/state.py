@@ -481,6 +481,13 @@ def draft_of(state: State) -> Draft | None:
     return Draft(aim, number, state.table, before, text, cells, state.version)
 
 
+def lines_typed(state: State) -> tuple[str, ...]:
+    """What is typed, in its lines if these are asked about; none if it is empty."""
+    question, typed = state.question, state.typed
+    lines = question.lines if question else ()
+    return tuple(filter(None, lines or ((typed.text,) if typed else ())))
+
+
 def size_typed(state: State) -> str:
     """The size of pages as it would be typed."""
     return f"{state.page_size.width} {state.page_size.lines}"

@@ -43,7 +43,7 @@ from scribe.screen.drawing import Drawing, draw
 from scribe.screen.keyboard import Keyboard, Pasted, Stroke
 from scribe.screen.keys import is_obeyed
 from scribe.screen.lines import CHOSEN, HEAD, HIGHLIGHTED, MARKED, PLAIN
-from scribe.screen.state import Size, State
+from scribe.screen.state import Size, State, lines_typed
 from scribe.screen.unread import rest_of, unread_of
 from scribe.screen.waiting import not_obeyed
 from scribe.words.console import WAITING
@@ -259,7 +259,8 @@ class Screen:
         state = self.state if self.state.typed else replace(self.state, cut=None)
         kept = self._desk.saved(state)
         if kept is not state and kept.typed is not None:
-            typed = ("This was typed:", visible(kept.typed.text))
+            lines = tuple(map(visible, lines_typed(kept)))
+            typed = ("This was typed:", *lines) if lines else ()
             self.unseen = (*self.unseen, kept.message, *typed)
         elif self.ended_by is not None and self._desk.has_waiting and not kept.is_lost:
             self.unseen = (*self.unseen, _WAITS)
