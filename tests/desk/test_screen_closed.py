@@ -115,6 +115,32 @@ def test_a_note_that_is_typed_is_offered_again_on_its_cells(
         assert session.print_of(2)[mark.start : mark.stop] == "Th"
 
 
+@pytest.mark.parametrize("way", WAYS)
+def test_what_was_cut_out_of_a_print_that_is_kept_is_put_in_elsewhere_after_the_end(
+    moon: Path, at: Open, way: str
+) -> None:
+    terminal = at(moon)
+    terminal.wait("? shows the keys.")
+    terminal.keys("down", "enter", "end", "c-w")
+    terminal.wait("“Tides” was cut. Ctrl-Y puts it in.")
+    terminal.keys("enter")
+    terminal.wait("kept: correction 1 of paragraph 2")
+    close(terminal, way)
+    check_has_ended(terminal, way)
+    again = at(moon)
+    again.wait(
+        "“Tides” was cut out of what was typed. Ctrl-Y puts it in while you type."
+    )
+    again.keys("o", "c-y")
+    again.wait("Tides")
+    again.keys("escape", "q")
+    assert again.ended() == 0
+    # who ends it by themselves is reminded of nothing
+    last = at(moon)
+    last.wait("? shows the keys.")
+    assert "cut out" not in " ".join(last.lines)
+
+
 def test_lines_that_were_pasted_and_not_answered_for_are_asked_about_again(
     moon: Path, at: Open
 ) -> None:

@@ -256,7 +256,10 @@ class Screen:
     def _keep_last(self) -> None:
         """Keeps what is typed at the end, and has it said if it can't be, or if it waits."""
         self._desk.keep_place(self.state)
-        state = self.state if self.state.typed else replace(self.state, cut=None)
+        state = self.state
+        if not (state.typed or self._is_told_to_end):
+            # who ends it by themselves isn't in the middle of it
+            state = replace(state, cut=None)
         kept = self._desk.saved(state)
         if kept is not state and kept.typed is not None:
             lines = tuple(map(visible, lines_typed(kept)))
