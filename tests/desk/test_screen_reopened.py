@@ -8,7 +8,7 @@ from pathlib import Path
 import pytest
 
 from braildesk import Displaced, Session
-from braildesk.desk.draft import Aim
+from braildesk.desk.draft import Aim, Draft
 from braildesk.desk.drafts import Drafts
 
 from scribe.screen.desk import Desk
@@ -150,6 +150,37 @@ def test_after_a_paragraph_that_the_book_has_the_next_one_is_typed(
     sat.write("no sun.")
     sat.press("enter")
     assert prints(sat)[:3] == ["The moon is far away.", "It rose.", "no sun."]
+
+
+@pytest.mark.parametrize(
+    "draft, where",
+    [
+        (
+            Draft(Aim.AFTER, 1, "en", "", "It rose.\nIt set.", None, 7),
+            "as the paragraphs 4 to 5: “It rose. It set.”.",
+        ),
+        (
+            Draft(
+                Aim.EDIT, 2, "en", "The Tide", "The Tides\nIt rose.\nIt set.", None, 6
+            ),
+            "in paragraph 2, and as the paragraphs 4 to 5: “The Tides It rose. It set.”.",
+        ),
+        (
+            Draft(Aim.EDIT, 2, "en", "The Tide", "The Tides\nIt set.", None, 6),
+            "in paragraph 2, and as paragraph 5: “The Tides It set.”.",
+        ),
+    ],
+)
+def test_of_lines_that_the_book_has_it_is_said_where_each_of_them_is(
+    moon: Path, sit: Sit, draft: Draft, where: str
+) -> None:
+    Drafts(moon).save(draft)
+    with Session(moon) as session:
+        for text in ("It rose.", "It set."):
+            session.add_paragraph("end", "en", text)
+    sat = sit(moon)
+    assert sat.state.message == f"What was typed last is in the book, {where}"
+    assert sat.state.question is None
 
 
 @pytest.mark.parametrize("far, keys", [(READ, "y y"), (KEPT, "y"), (ANSWERED, "y")])

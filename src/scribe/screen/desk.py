@@ -112,11 +112,12 @@ from scribe.words.deeds import Deed, kept
 from scribe.words.drafts import (
     Unsent,
     came_last,
+    is_in_book,
     not_kept,
     taken_back_in_part,
     where_typed,
 )
-from scribe.words.paragraph import counted, part_of, quoted
+from scribe.words.paragraph import counted, part_of
 from scribe.words.preview import Preview, Tables
 from scribe.words.status import Interrupted, Stop, in_sentences, of_system
 
@@ -475,7 +476,7 @@ class Desk:
         if where:
             rest = unkept(self._session, state, saved)
             if rest is None:
-                said = f"What was typed last is in the book, {where}: {quoted(saved.text)}."
+                said = is_in_book(saved, where, [each.id for each in state.book])
                 said = f"{state.message} {said}" if state.message else said
                 return self.save_draft(state.saying(said))
             saved = rest

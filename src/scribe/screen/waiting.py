@@ -22,6 +22,7 @@ from scribe.screen.state import (
 )
 from scribe.words.drafts import (
     Unsent,
+    as_paragraphs,
     changed_since,
     typed_at_offer,
     what_for,
@@ -150,8 +151,8 @@ def where_kept(session: Session, state: State, saved: Draft) -> str:
     if saved.version is None or state.version <= saved.version or not numbers:
         return ""
     if saved.aim.is_new:
-        is_there = lines_kept(session, saved, state.version, numbers) > 0
-        return f"as paragraph {max(numbers)}" if is_there else ""
+        count = lines_kept(session, saved, state.version, numbers)
+        return as_paragraphs(numbers, count)
     text = composed(saved.first_line)
     number = saved.paragraph
     if number is None or number not in numbers:

@@ -37,7 +37,7 @@ from scribe.words import deeds, pagelook
 from scribe.words.aftermath import opened_again
 from scribe.words.change_all import REST_STAYS, Count
 from scribe.words.deeds import Deed, kept
-from scribe.words.drafts import not_kept
+from scribe.words.drafts import as_paragraphs, not_kept
 from scribe.words.paragraph import counted, part_of, quoted
 from scribe.words.preview import Tables
 from scribe.words.status import Stop
@@ -628,7 +628,7 @@ class OpenBook:
         numbers = [each.id for each in contents.paragraphs]
         if draft.aim.is_new:
             count = lines_kept(self._session, draft, contents.version, numbers)
-            return f"as paragraph {max(numbers)}" if count else ""
+            return as_paragraphs(numbers, count)
         number = draft.paragraph if draft.paragraph in numbers else None
         if number is None:
             return ""

@@ -17,6 +17,7 @@ from scribe.window.typed import Typed
 from scribe.words.change_all import STAY, cut_short
 from scribe.words.drafts import (
     came_last,
+    is_in_book,
     not_kept,
     taken_back_in_part,
     what_for,
@@ -119,9 +120,8 @@ class Offers:
             if rest is None:
                 desk.unsent.take_on()
                 desk.keep_draft(None)
-                desk.say(
-                    f"What was typed last is in the book, {where}: {quoted(waiting.text)}."
-                )
+                numbers = [each.id for each in contents.paragraphs]
+                desk.say(is_in_book(waiting, where, numbers))
                 return
             waiting = rest
         asked = (

@@ -1,6 +1,6 @@
 """What a person began and the book doesn't have yet, in words, what becomes of it, and why it isn't kept."""
 
-from collections.abc import Callable
+from collections.abc import Callable, Sequence
 from contextlib import suppress
 from dataclasses import replace
 from pathlib import Path
@@ -74,6 +74,22 @@ def without_paragraph(draft: Draft) -> str:
     number = draft.paragraph
     why = f"The book has no paragraph {number}, so it" if number else "It"
     return f" {why} would be a new paragraph."
+
+
+def as_paragraphs(numbers: Sequence[int], count: int) -> str:
+    """That a text is in the book as so many of its newest paragraphs, of these numbers; or nothing."""
+    newest = sorted(numbers)[-count:] if count else []
+    if len(newest) < 2:
+        return f"as paragraph {newest[0]}" if newest else ""
+    return f"as the paragraphs {newest[0]} to {newest[-1]}"
+
+
+def is_in_book(draft: Draft, where: str, numbers: Sequence[int]) -> str:
+    """That what was typed last is in the book: where, and what came after the print of a paragraph."""
+    more = 0 if draft.aim.is_new else draft.text.count("\n")
+    after = f", and {as_paragraphs(numbers, more)}" if more else ""
+    text = quoted(draft.joined)
+    return f"What was typed last is in the book, {where}{after}: {text}."
 
 
 def came_last(text: str) -> str:
