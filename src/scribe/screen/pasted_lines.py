@@ -7,6 +7,8 @@ from scribe.screen.actions import PutBy
 from scribe.screen.field import Field, Purpose, blank_between
 from scribe.screen.state import End, Question, State, Step
 
+#: What takes out the character before it, in place of a text that is typed on.
+BACK = "\x7f"
 _PASTED, _TYPED = "The pasted text", "What is typed"
 _NOT_ENTER = "The end of the pasted line was left out. Enter ends what is typed."
 _AS_BLANK = "The end of the pasted line is a blank here. Enter ends what is typed."
@@ -154,7 +156,7 @@ def typed_on(state: State, typed: Field, question: Question, text: str) -> State
         front = front.removesuffix(" ") if back else front
         is_ended = question.end is End.ENTER
         text = f"\n{text}" if is_ended else blank_between(front, text) + text
-    whole = front[:-1] if text == "\x7f" else front + text
+    whole = front[:-1] if text == BACK else front + text
     *ended, front = whole.split("\n")
     lines = [*above, *(line for line in ended if line.strip()), front + back]
     there = [line for line in lines if line]

@@ -18,7 +18,7 @@ from scribe.screen.actions import (
     TypeAll,
 )
 from scribe.screen.field import Field, Purpose
-from scribe.screen.pasted_lines import about_lines, typed_on
+from scribe.screen.pasted_lines import BACK, about_lines, typed_on
 from scribe.screen.state import End, Question, State, Step
 from scribe.screen.typing_keys import is_character, no_table, table_of_new, while_typing
 
@@ -84,7 +84,7 @@ def _about_lines(state: State, typed: Field, question: Question, key: str) -> St
     if key == "enter" and question.is_typed_on:
         key = "\n"
     elif key == "backspace" and question.is_typed_on:
-        key = "\x7f"
+        key = BACK
     elif not is_character(key):
         return _no_answer(asked)
     return Step(typed_on(asked, typed, question, key))

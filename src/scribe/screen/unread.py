@@ -1,4 +1,4 @@
-"""Keys that came and weren't carried out: the text among them is kept, and no key is obeyed."""
+"""Keys that came and weren't carried out: the text among them is kept, and nothing is done to the book."""
 
 from collections.abc import Sequence
 from dataclasses import dataclass, replace
@@ -8,8 +8,9 @@ from braildesk.desk.draft import Unread
 from scribe.screen.actions import PutBy, TypeAll
 from scribe.screen.arrivals import is_text, text_of
 from scribe.screen.keyboard import Pasted, Stroke
-from scribe.screen.pasted_lines import pasted
+from scribe.screen.pasted_lines import BACK, pasted, typed_on
 from scribe.screen.state import State, draft_of, draft_of_pasted
+from scribe.screen.typing_keys import while_typing
 
 
 @dataclass(frozen=True)
@@ -36,6 +37,8 @@ def rest_of(state: State, came: Sequence[Stroke]) -> Rest:
             rest = _with_pasted(rest, stroke, is_ended)
         elif is_of_line and len(stroke) == 1:
             rest = replace(rest, state=pasted(rest.state, stroke).state)
+        elif is_of_line and (edited := _edited(rest.state, stroke)) is not None:
+            rest = replace(rest, state=edited)
         else:
             # what comes after another key may be no text
             if is_text(stroke):
@@ -90,6 +93,20 @@ def _with_pasted(rest: Rest, text: Pasted, is_ended: bool) -> Rest:
     is_said = rest.state.typed is None and not rest.state.is_lost
     said = (step.state.message,) if is_said and step.state is not rest.state else ()
     return replace(rest, state=step.state, said=(*rest.said, *said))
+
+
+def _edited(state: State, key: str) -> State | None:
+    """The state after a key that moves in what is typed or takes something out; None for others."""
+    typed, asked = state.typed, state.question
+    if typed is None or key == "escape" or is_text(key):
+        return None
+    if asked is not None:
+        is_back = key == "backspace" and asked.is_typed_on
+        return typed_on(state, typed, asked, BACK) if is_back else state
+    if state.ended == typed:
+        # nothing is typed of another paragraph yet
+        return state
+    return while_typing(state, typed, key).state.saying(state.message)
 
 
 def _another_begun(state: State) -> State | None:
