@@ -15,7 +15,7 @@ import pytest
 from hypothesis import HealthCheck, given, settings, strategies as st
 
 from braildesk.desk.draft import Aim, Draft, draft_in
-from braildesk.desk.drafts import Drafts, NotKept
+from braildesk.desk.drafts import Begun, Drafts, NotKept, NotSaved
 from braildesk.desk.import_note import note_in
 from braildesk.desk.own_folder import MOST_BYTES
 from braildesk.desk.record import NotSuch, Record
@@ -329,6 +329,26 @@ def test_long_texts_that_were_given_up_make_room_for_the_newest(
     assert [each.text[0] for each in Unsent(Drafts(moon)).texts()] == ["c", "b"]
     unsent.take_up(texts[0], texts[0].text)
     assert [each.text[0] for each in unsent.texts()] == ["c", "b"]
+
+
+def test_a_text_that_is_kept_later_takes_no_older_one_away(
+    moon: Path, store: Path, monkeypatch: pytest.MonkeyPatch
+) -> None:
+    texts = [Draft(Aim.AFTER, 1, "en", "", letter * 900_000) for letter in "abc"]
+    unsent = Unsent(Drafts(moon))
+    for each in texts[:2]:
+        unsent.put_by(each)
+
+    def full(drafts: Drafts, draft: Draft) -> tuple[Draft, ...]:
+        cause = OSError(errno.ENOSPC, "No space left on device")
+        raise NotSaved(Begun.GIVEN_UP, store, cause, False)
+
+    with monkeypatch.context() as patched:
+        patched.setattr(Drafts, "put_by", full)
+        assert "can't be kept" in unsent.put_by(texts[2])
+    unsent.keep(None)
+    assert unsent.unkept == ()
+    assert [each.text[0] for each in unsent.texts()] == ["c", "b", "a"]
 
 
 def test_a_text_that_is_too_long_is_not_kept_and_the_one_before_it_stays(

@@ -5,7 +5,7 @@ from dataclasses import replace
 import pytest
 
 from scribe.screen.field import Field, Purpose
-from scribe.screen.keyboard import Pasted
+from scribe.screen.keyboard import Pasted, Stroke
 from scribe.screen.state import Size, State, lines_typed
 from scribe.screen.unread import rest_of, unread_of
 
@@ -35,7 +35,12 @@ def test_a_text_is_kept_with_what_keys_took_out_of_it(keys: str, lines: str) -> 
 
 
 def test_a_text_that_is_typed_while_nothing_is_done_is_kept_after_a_key_in_it() -> None:
-    came = ["enter", Pasted("It stood. It sett", is_keys=True), "backspace", "."]
+    came: list[Stroke] = [
+        "enter",
+        Pasted("It stood. It sett", is_keys=True),
+        "backspace",
+        ".",
+    ]
     unread = unread_of(TYPED, came)
     assert unread is not None and unread.lines == "It stood. It set."
     assert unread.rest.text == ""

@@ -1096,7 +1096,7 @@ class Desk:
         back = (
             f"Once nothing is typed any more, U brings back the {what} after this one."
         )
-        return self.saved(state.saying_too(fault or back))
+        return self.saved(state.saying_too(f"{back} {fault}".rstrip()))
 
 
 def _table_put_in(state: State, name: str) -> requests.Table | requests.Supply:

@@ -66,8 +66,8 @@ def _given_up(unsent: Unsent, state: State) -> State:
     draft = draft_of(state)
     fault = unsent.put_by(draft) if draft else ""
     if asked is not None and asked.lines:
-        how = fault or "Once nothing is typed any more, U brings them back."
-        said = f"These lines aren't in the book. {how}"
+        how = "Once nothing is typed any more, U brings them back."
+        said = f"These lines aren't in the book. {how} {fault}".rstrip()
         return replace(state, question=None).saying(said)
     said = "Given up. The book is as it was."
     if draft is not None:

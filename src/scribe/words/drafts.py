@@ -251,9 +251,10 @@ class Unsent:
         """Tries again to keep what was given up and couldn't be kept, the oldest first."""
         while self._here:
             try:
-                self._drafts.put_by(self._here[-1])
+                older = self._drafts.put_by(self._here[-1])
             except NotKept:
                 return
+            self._older = (*older, *self._older)
             self._here.pop()
 
     @property
