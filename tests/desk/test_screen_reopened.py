@@ -484,6 +484,19 @@ def another(moon: Path, texts: int) -> Path:
     return other
 
 
+def test_another_book_has_no_table_of_the_one_before(
+    moon: Path, book: Path, sit: Sit
+) -> None:
+    sat = sit(moon)
+    sat.press("s")
+    book.rename(moon)
+    sat.press("b", "enter")
+    assert sat.state.message.startswith("The file that is at the path now is open.")
+    assert (sat.state.tables, sat.desk.tables.names) == (("en",), ("en",))
+    sat.press("t", *"none", "enter")
+    assert " Nothing was changed. The book has the table en. " in sat.state.message
+
+
 @pytest.mark.parametrize("commands", [0, 1, 2])
 def test_another_book_is_not_shown_with_what_was_kept_in_the_one_before(
     moon: Path, sit: Sit, commands: int

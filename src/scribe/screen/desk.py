@@ -437,8 +437,7 @@ class Desk:
             session.close()
             raise
         self._session = session
-        for table in found:
-            self.tables.put(table.name, table.text)
+        self.tables.read(found)
 
     def _open_further(self) -> None:
         """Opens another session, in which what was kept before is at stake as well.

@@ -652,8 +652,7 @@ class OpenBook:
             # what was kept before is at stake in this session as well
             session.guard()
         self._was_open = True
-        for table in session.tables():
-            self.tables.put(table.name, table.text)
+        self.tables.read(session.tables())
         return self.contents()
 
     def _sent(self, command: Command[Any], deed: Deed | None = None) -> Any:

@@ -1,6 +1,6 @@
 """The braille of print that isn't in the book yet, by `braildesk translate`."""
 
-from collections.abc import Callable, Sequence
+from collections.abc import Callable, Iterable, Sequence
 from dataclasses import dataclass
 
 from braildesk import DeskError, Refused, Table, Undefined, translate
@@ -33,6 +33,10 @@ class Tables:
     def names(self) -> tuple[str, ...]:
         """The names of the tables."""
         return tuple(sorted(self._tables))
+
+    def read(self, tables: Iterable[Table]) -> None:
+        """Keeps the texts of the tables of a book, which may be another one than before, and of no others."""
+        self._tables = {each.name: each for each in tables}
 
     def put(self, name: str, text: bytes | None) -> None:
         """Keeps the text of a table; None is the supplied one."""
