@@ -340,6 +340,34 @@ def test_keys_go_through_a_question_that_has_no_room(count: int) -> None:
     assert " ".join(rows) == f"{asked.sentence} y is yes, n is no. l leaves it."
 
 
+@pytest.mark.parametrize("count", [1, 2, 3])
+@pytest.mark.parametrize(
+    "typed", [None, Field(Purpose.EDIT, "The", 3), Field(Purpose.NOTE, "why?", 4)]
+)
+def test_keys_go_through_what_is_said_that_has_no_room(
+    count: int, typed: Field | None
+) -> None:
+    words = " ".join(f"It has word {n} of many." for n in range(1, 11))
+    state = replace(STATE, size=Size(40, count), typed=typed).saying(words)
+    seen: list[list[str]] = []
+    looked: State | None = state
+    while looked is not None:
+        seen.append([each for each in draw(looked).texts() if "word" in each])
+        state, looked = looked, moved(looked, "down")
+    rows = [
+        row.removesuffix("…") for row in [*map(lambda its: its[0], seen), *seen[-1][1:]]
+    ]
+    assert " ".join(rows) == words
+    # beyond its end the keys are those of the book again, and before its front
+    for _ in seen[1:]:
+        back = moved(state, "up")
+        assert back is not None
+        state = back
+    assert draw(state).texts() == draw(replace(state, said_row=0)).texts()
+    assert moved(state, "up") is None and moved(state, "left") is None
+    assert moved(replace(state, size=Size(40, 12)), "down") is None
+
+
 def test_a_question_is_read_from_its_front_where_little_of_it_is_seen() -> None:
     words = "It rose over the old stone pier, and it set. Shall it be typed further?"
     state = replace(STATE, size=Size(40, 2), question=Question(words))

@@ -133,7 +133,7 @@ def test_a_text_whose_paragraph_an_older_file_lacks_is_said_to_be_a_new_paragrap
     )
     # where there is no room for all of the question it is seen once that is answered
     sat.press("y")
-    assert sat.lines[1] == "The book has no paragraph 9, so it woul…"
+    assert sat.lines[1] == "The book has no paragraph 9, so it…"
     sat.press("end")
     assert sat.lines[1] == "It was dark."
 

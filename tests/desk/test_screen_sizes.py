@@ -147,33 +147,48 @@ def test_few_lines_show_how_a_question_is_answered_and_the_line_of_a_list(
     assert of_cursor(sat)[0].startswith(f"1 open mark. {what}")
 
 
-def test_a_question_is_read_whole_on_two_lines_and_on_one(moon: Path, at: Open) -> None:
+@pytest.mark.parametrize("lines", [1, 2])
+def test_a_question_is_read_whole_on_few_lines(
+    moon: Path, at: Open, lines: int
+) -> None:
     Drafts(moon).save(Draft(Aim.EDIT, 2, "en", "The Tides", "The tides of the sea"))
     asked = (
         "A text of paragraph 2 was typed and isn't in the book: “The tides of the sea”. Shall it be"
         " typed further? y is yes, n is no. l leaves it for later."
     )
-    for lines in (2, 1):
-        terminal = at(moon, 40, lines)
-        terminal.wait("A text of paragraph 2 was typed and…")
-        read = ["A text of paragraph 2 was typed and"]
-        while not read[-1].endswith("for later."):
-            terminal.keys("down")
-            terminal.settle()
-            line = terminal.lines[terminal.cursor[0]]
-            read.append(line.removesuffix("…"))
-        assert " ".join(read) == asked
-        terminal.keys("home")
-        terminal.wait("Paragraph 2, body, nothing kept yet")
-        terminal.answer("l")
-        terminal.wait("The text waits for the next opening. U…")
-        terminal.keys("q")
-        assert terminal.ended() == 0
+    terminal = at(moon, 40, lines)
+    terminal.wait("A text of paragraph 2 was typed and…")
+    read = ["A text of paragraph 2 was typed and"]
+    while not read[-1].endswith("for later.") and len(read) < 9:
+        terminal.keys("down")
+        terminal.settle()
+        line = terminal.lines[terminal.cursor[0]]
+        read.append(line.removesuffix("…"))
+    assert " ".join(read) == asked
+    terminal.keys("home")
+    terminal.wait("Paragraph 2, body, nothing kept yet")
+    terminal.answer("l")
+    terminal.wait("The text waits for the next opening. U…")
+    terminal.keys("q")
+    assert terminal.ended() == 0
+
+
+def test_what_is_said_is_read_to_its_end_on_two_lines(moon: Path, sit: Sit) -> None:
+    sat = sit(moon, size=Size(40, 2))
+    sat.press("t", *"none", "enter")
+    read = [sat.lines[1]]
+    while read[-1].endswith("…"):
+        sat.press("down")
+        read.append(sat.lines[1])
+    assert " ".join(each.removesuffix("…") for each in read) == sat.state.message
+    assert sat.state.times == 1 and len(read) > 3
+    sat.press("down")
+    assert sat.lines == ["Paragraph 2, body, nothing kept yet", "The Tides"]
 
 
 def test_what_was_kept_is_said_on_one_line(moon: Path, at: Open) -> None:
     terminal = at(moon, 40, 1)
-    terminal.wait("The moon is far away.")
+    terminal.wait("? shows the keys.")
     terminal.keys("enter", "O", "h", " ", "enter")
     terminal.wait("Kept: correction 2 of paragraph 1.")
     terminal.keys("s")

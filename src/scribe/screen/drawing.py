@@ -364,10 +364,7 @@ def _fault(state: State) -> str:
 
 def _message(state: State, most: int) -> list[str]:
     """What is said, in at most so many lines."""
-    if not state.heard:
-        return []
-    lines = wrap(visible(state.heard), state.size.columns)
-    return _at_most(lines, most, state.size.columns)
+    return _at_most(question_rows.said(state, most), most, state.size.columns)
 
 
 def _place_lines(state: State) -> list[str]:

@@ -95,7 +95,7 @@ def step(state: State, key: str) -> Step:
     """What a key asks for in a state. A key is a character, or the name of another key."""
     if is_cut(key):
         return Step(state.saying("What came isn't UTF-8, and was left out."))
-    state = replace(state, message="")
+    state = state.saying("")
     if state.is_lost and key in ("q", "escape"):
         return Step(state, Quit())
     if state.is_lost and key == "enter":

@@ -1,6 +1,6 @@
-"""What is asked in rows of the screen, and the keys that go through these where there is no room for all.
+"""What is asked and said in rows of the screen, and the keys that go through these where all have no room.
 
-What is said before it goes before it, and above both is the title of the screen, which is row 0.
+What is said goes before what is asked, and above both is the title of the screen, which is row 0.
 """
 
 from dataclasses import dataclass, replace
@@ -52,12 +52,14 @@ def part(state: State, question: Question) -> Part | None:
 
 
 def moved(state: State, key: str) -> State | None:
-    """The state after a key that goes through the rows of what is asked; None for another key.
+    """The state after a key that goes through the rows of what is asked or said; None for another key.
 
-    It does so where not all of these are seen at once, or the title isn't.
+    It does so where not all of these are seen at once, or what is asked covers the title.
     """
     question = state.question
-    if question is None or state.is_lost or is_whole(state):
+    if question is None or state.is_lost:
+        return _said_further(state, key)
+    if is_whole(state):
         return None
     row, last = _row(state, question), len(_narrow_rows(state, question))
     match key:
@@ -78,6 +80,27 @@ def is_whole(state: State) -> bool:
         return True
     whole = _rows(state, state.question, state.size.columns)
     return len(whole) < state.size.lines
+
+
+def said(state: State, most: int) -> list[str]:
+    """What is said in rows, from the one on that keys went to, where so many have no room for all."""
+    width = state.size.columns
+    rows = wrap(visible(state.heard), width) if state.heard else []
+    if len(rows) <= most or state.size.lines >= _FEW:
+        return rows
+    rows = wrap(visible(state.heard), width - 1)
+    return rows[min(state.said_row, len(rows) - 1) :]
+
+
+def _said_further(state: State, key: str) -> State | None:
+    """The state in which what is said is read on by Down, to its last row, and back by Up."""
+    if key not in ("up", "down"):
+        return None
+    is_typed = state.is_typing and not state.is_lost
+    most = max(1, state.size.lines - (2 if is_typed else 1))
+    rows, row = said(state, most), state.said_row + (1 if key == "down" else -1)
+    is_there = row >= 0 and (key == "up" or len(rows) > most)
+    return replace(state, said_row=row) if rows and is_there else None
 
 
 def _row(state: State, question: Question) -> int:

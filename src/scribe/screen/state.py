@@ -232,6 +232,8 @@ class State:
     message: str = ""
     times: int = 1
     kept: str = ""
+    #: The first row that is seen of what is said, while keys go through what has no room.
+    said_row: int = 0
     #: The session with the book ended by itself.
     is_lost: bool = False
     #: What was kept isn't in the file that stands at the path now.
@@ -377,7 +379,7 @@ class State:
 
     def saying(self, sentence: str) -> "State":
         """The state with something to say."""
-        return replace(self, message=sentence)
+        return replace(self, message=sentence, said_row=0)
 
     def saying_too(self, sentence: str) -> "State":
         """The state with something to say after what is said already, and that once."""
