@@ -416,9 +416,9 @@ class _Fields:
 
 def _own_closed(what: str, do: str, mode: str, path: str) -> str:
     """That a file or a folder of one's own is kept from one by its mode, and how that is changed."""
-    import shlex  # which few refusals need
+    from braildesk.text.shell_words import command_line  # which few refusals need
 
-    command = visible(shlex.join(["chmod", mode, "--", path]))
+    command = command_line(["chmod", mode, "--", path])
     return f"{what} is your own, and its permissions don't let you {do}. This lets you: {command}"
 
 
