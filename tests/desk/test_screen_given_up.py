@@ -364,6 +364,33 @@ def test_lines_that_were_pasted_into_an_edit_and_cut_short_go_on(
 
 
 def test_lines_pasted_into_an_edit_go_on_after_the_one_that_is_in_the_book(
+@pytest.mark.parametrize("is_killed", [False, True])
+def test_lines_of_an_edit_that_are_given_up_again_leave_its_print(
+    moon: Path, sit: Sit, is_killed: bool
+) -> None:
+    sat = sit(moon)
+    sat.press("down", "enter", "end")
+    paste(sat, "of\nthe sea.")
+    if is_killed:
+        sat.state = sat.desk.save_draft(sat.state)
+        sat.desk.close()
+        sat = sit(moon)
+    else:
+        sat.press("escape", "escape", "U")
+    sat.press("y")
+    lines = ("The Tidesof", "the sea.")
+    assert sat.state.question and sat.state.question.lines == lines
+    sat.press("escape")
+    assert sat.state.typed and sat.state.typed.text == "The Tides"
+    sat.press("enter")
+    assert [sat.state.openings[each.id].words for each in sat.state.book][1] == (
+        "The Tides"
+    )
+    assert sat.state.version == 7
+    sat.press("U")
+    assert "“The Tidesof the sea.”" in asked(sat)
+
+
     moon: Path, sit: Sit, monkeypatch: pytest.MonkeyPatch
 ) -> None:
     with monkeypatch.context() as patched:

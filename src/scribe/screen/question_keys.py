@@ -141,5 +141,8 @@ def _taken_up(asked: State, draft: Field) -> Step:
         # of a print it is said once, since it has the rows of its braille
         typed = replace(draft, said="") if draft.purpose.is_print else draft
         return Step(replace(state, typed=typed).saying(draft.said))
-    typed = Field(draft.purpose)
+    # where they are given up, an edit is one of the print as it stands
+    its = asked.reading if draft.purpose is Purpose.EDIT else None
+    front = its.text if its else ""
+    typed = Field(draft.purpose, front, len(front))
     return Step(replace(state, typed=typed, question=about_lines(typed.purpose, lines)))
