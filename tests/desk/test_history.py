@@ -43,6 +43,18 @@ def test_each_entry_is_shown_with_who_and_for_what_the_newest_first(men: Path) -
     )
 
 
+def test_characters_beside_a_correction_that_are_not_known_are_none_that_it_replaced(
+    book: Path,
+) -> None:
+    with Session(book) as session:
+        session.add_paragraph("end", "en", "The cat sat on the mat that night.")
+        session.correct(1, 4, 0, "XX", by="bob")
+        session.correct(1, 4, 25, "A dog lay under a tree", by="alice")
+    assert history(book, "1", "--width", "80").shown.splitlines()[1] == (
+        "Paragraph 1, correction 1, by bob: The [XX]… night."
+    )
+
+
 def test_one_paragraph_or_one_proofreader_is_shown_alone(men: Path) -> None:
     assert [line[:28] for line in history(men, "1").shown.splitlines()] == [
         "Paragraph 1, correction 4, f",

@@ -128,12 +128,11 @@ def test_words_count_from_1_and_say_that_requests_do_not(talk: Prompted) -> None
         "Paragraph 1, correction 3, for",
         "  “The…moon”:",
         "Oh, [Themoon] is far away.",
-        "Paragraph 1, correction 2, for",
-        "  “The…moon”:",
-        "[Oh, The…moon] is far away.",
-        "Paragraph 1, correction 1, for 7",
+        "Paragraph 1, correction 2, for “The”:",
+        "[Oh, The]…moon is far away.",
+        "Paragraph 1, correction 1, for 3",
         "  characters:",
-        "[The…moon] is far away.",
+        "The…[moon] is far away.",
     ]
 
 

@@ -12,6 +12,8 @@ _INDENT = "  "
 #: How much of a text beside the words is worth the rest of a line.
 _BESIDE = 10
 _BRACKETS = len("[]")
+#: What ends a word: a blank, or a character that isn't known.
+_NO_WORD = (*BLANKS, None)
 
 
 class Excerpts:
@@ -201,14 +203,14 @@ def _fitting(pieces: list[str], width: int, size_of: Callable[[str], int]) -> li
 
 
 def word_front(text: Sequence[str | None], place: int) -> int:
-    """The front of the word in which a place of a text stands; None in it are unknown characters."""
-    while place > 0 and text[place - 1] not in BLANKS:
+    """The front of the word in which a place of a text stands; None is a character that isn't known."""
+    while place > 0 and text[place - 1] not in _NO_WORD:
         place -= 1
     return place
 
 
 def word_end(text: Sequence[str | None], place: int) -> int:
     """The end of the word in which a place stands."""
-    while place < len(text) and text[place] not in BLANKS:
+    while place < len(text) and text[place] not in _NO_WORD:
         place += 1
     return place
