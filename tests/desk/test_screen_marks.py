@@ -205,6 +205,16 @@ def test_n_says_where_it_goes_around_and_that_there_is_no_other_mark(
     assert sat.state.message == "The book has no other open mark."
     sat.press("down", "n")
     assert sat.state.message == (
+def test_n_goes_from_a_mark_that_was_just_put_on_cells(moon: Path, sit: Sit) -> None:
+    sat = sit(moon)
+    sat.press("down", "tab", "right", "m", "A", "enter", "m", "B", "enter")
+    assert sat.state.mark_in_hand and sat.state.mark_in_hand.id == 3
+    sat.press("N")
+    assert sat.state.mark_in_hand and sat.state.mark_in_hand.id == 2
+    sat.press("tab", "right", "m", "C", "enter", "n")
+    assert sat.state.mark_in_hand and sat.state.mark_in_hand.id == 1
+
+
         "No open mark up to the end of the book: this is the first in it."
     )
     sat.press("left", "left", "N")

@@ -2,7 +2,7 @@
 
 from dataclasses import replace
 
-from braildesk import Session
+from braildesk import Mark, Session
 from braildesk.desk import search
 from braildesk.desk.find import alike, unlike
 from braildesk.desk.places import cells_of
@@ -38,20 +38,21 @@ def to_found(session: Session, state: State, action: ToFound) -> State:
 
 def to_mark(session: Session, state: State, action: ToMark) -> State:
     """The state with the cursor at the next open mark, or at the one before."""
-    here = state
+    # it is one while the cursor is where it was, on print or on cells
+    here, held = state, state.mark_in_hand
     if state.pane is Pane.CELLS:
         place = state.highlighted.words.start if state.highlighted else 0
         here = replace(state, pane=Pane.PRINT, place=place)
-    spot = _spot_of_mark(here)
+    spot = _spot_of_mark(here, held)
     found = search.next_mark(session, here.book, spot, action.is_back)
     if found is None:
         return state.saying("The book has no open marks.")
     return at_mark(replace(here, anchor=None), found, action.is_back)
 
 
-def _spot_of_mark(state: State) -> search.Spot:
+def _spot_of_mark(state: State, held: Mark | None) -> search.Spot:
     """The spot of the mark in hand, or of the one that is shown first if it begins at the cursor."""
-    shown = state.mark_in_hand
+    shown = held
     if shown is None:
         begins = (mark for mark in state.marks_here if mark.start == state.place)
         shown = next((mark for mark in begins if mark == state.marks_here[0]), None)
