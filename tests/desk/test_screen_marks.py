@@ -164,6 +164,16 @@ def test_a_mark_in_hand_that_is_elsewhere_is_not_counted_here(
     assert sat.lines[-5:-3] == [second, first.replace("open", "resolved")]
 
 
+def test_a_mark_that_u_resolves_elsewhere_leaves_none_here(
+    moon: Path, sit: Sit
+) -> None:
+    sat = sit(moon)
+    sat.press("/", *"far", "enter", "m", *"how far?", "enter", "n", "u")
+    assert sat.state.message == (
+        "Taken back: mark 2 was put. The book keeps it, resolved."
+    )
+
+
 def test_each_mark_of_one_character_is_gone_to_shown_and_resolved(
     moon: Path, sit: Sit
 ) -> None:
@@ -195,16 +205,6 @@ def test_each_mark_of_one_character_is_gone_to_shown_and_resolved(
     assert sat.state.message == "There is no open mark here. n looks for the next one."
 
 
-def test_n_says_where_it_goes_around_and_that_there_is_no_other_mark(
-    moon: Path, sit: Sit
-) -> None:
-    sat = sit(moon)
-    sat.press("n")
-    assert sat.state.message == ""
-    sat.press("n")
-    assert sat.state.message == "The book has no other open mark."
-    sat.press("down", "n")
-    assert sat.state.message == (
 def test_n_goes_from_a_mark_that_was_just_put_on_cells(moon: Path, sit: Sit) -> None:
     sat = sit(moon)
     sat.press("down", "tab", "right", "m", "A", "enter", "m", "B", "enter")
@@ -215,6 +215,16 @@ def test_n_goes_from_a_mark_that_was_just_put_on_cells(moon: Path, sit: Sit) -> 
     assert sat.state.mark_in_hand and sat.state.mark_in_hand.id == 1
 
 
+def test_n_says_where_it_goes_around_and_that_there_is_no_other_mark(
+    moon: Path, sit: Sit
+) -> None:
+    sat = sit(moon)
+    sat.press("n")
+    assert sat.state.message == ""
+    sat.press("n")
+    assert sat.state.message == "The book has no other open mark."
+    sat.press("down", "n")
+    assert sat.state.message == (
         "No open mark up to the end of the book: this is the first in it."
     )
     sat.press("left", "left", "N")

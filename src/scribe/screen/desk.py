@@ -729,7 +729,11 @@ class Desk:
             place = place_kept(typed.text, kept_as, typed.place)
             state = replace(state, pane=Pane.PRINT, place=place)
         state = self._changed(state, number, before)
-        return left_here(state) if isinstance(command, requests.Resolve) else state
+        if not isinstance(command, requests.Resolve):
+            return state
+        # u takes back also what was put where the cursor isn't
+        is_here = any(mark.id == command.mark for mark in before.marks_here)
+        return left_here(state) if is_here else state
 
     def _resolving(self, state: State, command: Command[Any]) -> Deed | None:
         """How a mark that is about to be resolved is put again; its cells are found before."""
