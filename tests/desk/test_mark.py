@@ -226,8 +226,8 @@ def test_the_next_open_mark_comes_in_the_order_of_the_book(marked: Path) -> None
         "It is the first of the book again. 2 other marks are open.",
     ]
     assert shown("9") == [
-        "The book has no mark 9. Nothing was changed. The command",
-        "marks shows which there are.",
+        "The book has no mark 9. The command marks shows which there",
+        "are.",
     ]
     with Session(marked) as session:
         session.resolve_mark(1)

@@ -87,7 +87,7 @@ def quoted(text: str) -> str:
 
 def no_mark(number: int, command: str = "The command marks") -> str:
     """The sentence for a mark that isn't there, with what shows those that are."""
-    return f"The book has no mark {number}. Nothing was changed. {command} shows which there are."
+    return f"The book has no mark {number}. {command} shows which there are."
 
 
 def no_paragraph(number: int, count: int) -> str:

@@ -50,6 +50,6 @@ def answer_of(name: str) -> Answer:
 def _no_mark(arguments: Namespace) -> str:
     if "wait" not in arguments:
         # at the prompt of talk, which has the book open
-        return no_mark(arguments.mark)
+        return no_mark(arguments.mark, "Nothing was changed. The command marks")
     command = command_line(["scribe", "marks", path_word(arguments.file)])
-    return no_mark(arguments.mark, command)
+    return no_mark(arguments.mark, f"Nothing was changed. {command}")
