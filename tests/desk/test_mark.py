@@ -236,3 +236,10 @@ def test_the_next_open_mark_comes_in_the_order_of_the_book(marked: Path) -> None
     with Session(marked) as session:
         session.resolve_mark(3)
     assert shown() == ["The book has no open mark."]
+
+
+def test_the_next_open_mark_is_said_to_be_in_a_struck_paragraph(marked: Path) -> None:
+    with Session(marked) as session:
+        session.strike(2)
+    ran = scribe("next", marked, folder=marked.parent)
+    assert ran.shown.splitlines()[1] == "Paragraph 2, struck: Two [moons]"

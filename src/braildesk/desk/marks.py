@@ -18,6 +18,8 @@ class MarkOfBook(NamedTuple):
     mark: Mark
     paragraph: int
     text: str
+    #: Whether that paragraph is struck.
+    is_struck: bool = False
 
 
 class NoMark(Problem):
@@ -40,7 +42,7 @@ def _in_order(session: Session) -> list[MarkOfBook]:
     pairs = [(each, its) for each, its in zip(book, marks) if its]
     texts = prints(session, [each for each, _ in pairs])
     return [
-        MarkOfBook(mark, paragraph.id, text)
+        MarkOfBook(mark, paragraph.id, text, paragraph.struck)
         for (paragraph, its), text in zip(pairs, texts)
         for mark in sorted(its, key=lambda mark: (mark.start, mark.stop, mark.id))
     ]

@@ -39,7 +39,8 @@ def answer(
     found = next_open(session, arguments.after_mark)
     its = found.mark
     if its is not None:
-        mark, head = its.mark, f"Paragraph {its.paragraph}: "
+        struck = ", struck" if its.is_struck else ""
+        mark, head = its.mark, f"Paragraph {its.paragraph}{struck}: "
         console.show(mark_line(mark, its.text, its.paragraph))
         console.show(
             *excerpt_lines(head, its.text, mark.start, mark.stop, console.columns)
