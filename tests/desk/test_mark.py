@@ -137,6 +137,22 @@ def test_what_cannot_be_marked_is_refused(moon: Path) -> None:
     assert marks_of(moon) == ()
 
 
+def test_a_struck_paragraph_is_refused_before_it_is_asked_which_place_is_meant(
+    moon: Path,
+) -> None:
+    with Session(moon) as session:
+        session.strike(2)
+    ran = mark(moon, "2", "o", "which?")
+    assert (ran.status, ran.said) == (
+        2,
+        "Paragraph 2 is struck. No mark was put. Restore it first.\n",
+    )
+    ran = scribe("change", moon, "2", "o", "u", folder=moon.parent)
+    assert ran.said == (
+        "Paragraph 2 is struck. Nothing was changed. Restore it first.\n"
+    )
+
+
 def test_all_marks_are_shown_open_ones_first_in_the_order_of_the_book(
     moon: Path,
 ) -> None:

@@ -5,7 +5,7 @@ from dataclasses import dataclass, replace
 from braildesk import Mark, Refused, Session, Undefined
 from braildesk.desk import Problem
 from braildesk.desk.correction import replaced, smallest_correction
-from braildesk.desk.places import Words
+from braildesk.desk.places import Words, place_in
 from braildesk.protocol.requests import Correct
 from braildesk.refusals import refused_as
 from braildesk.text.spans import Span
@@ -36,7 +36,8 @@ def change_words(
     Raises `NoPlace`, `ManyPlaces` and `SameWords`.
     """
     before = session.print_of(words.paragraph)
-    went = words.place(before)
+    asked = Correct(words.paragraph, 0, 0, new)
+    went = place_in(session, words, before, asked)
     return change_place(session, words.paragraph, before, went, new, by)
 
 

@@ -5,9 +5,9 @@ from typing import NamedTuple
 
 from braildesk import Mark, Session
 from braildesk.desk import Problem
-from braildesk.desk.places import Words, cells_of
+from braildesk.desk.places import Words, cells_of, place_in
 from braildesk.desk.readings import answers, prints
-from braildesk.protocol.requests import Marks
+from braildesk.protocol import requests
 from braildesk.text.spans import Span
 
 
@@ -38,7 +38,7 @@ def all_marks(session: Session) -> list[MarkOfBook]:
 def _in_order(session: Session) -> list[MarkOfBook]:
     """The marks of a book by paragraph and place."""
     book = session.paragraphs()
-    marks = list(answers(session, (Marks(each.id) for each in book)))
+    marks = list(answers(session, (requests.Marks(each.id) for each in book)))
     pairs = [(each, its) for each, its in zip(book, marks) if its]
     texts = prints(session, [each for each, _ in pairs])
     return [
@@ -98,7 +98,7 @@ def mark_words(session: Session, words: Words, note: str) -> MarkedWords:
     number = words.paragraph
     text = session.print_of(number)
     version = session.last_version
-    place = words.place(text)
+    place = place_in(session, words, text, requests.Mark(number, 0, 0, note))
     cells = cells_of(session, number, place)
     count = cells.stop - cells.start
     made = session.add_mark(number, cells.start, count, note, expect=version)

@@ -1,9 +1,13 @@
 """The place of words in a paragraph, the cells that they have, and the words that cells stand for."""
 
 from dataclasses import dataclass
+from typing import Any
 
 from braildesk import Session
 from braildesk.desk import Problem
+from braildesk.protocol.codes import Code
+from braildesk.protocol.requests import CommandOnParagraph
+from braildesk.refusals import refused
 from braildesk.text.spans import Span, find_spans
 
 
@@ -56,6 +60,22 @@ class Words:
         if nth is None or nth > len(found):
             raise ManyPlaces(self.text, text, self.paragraph, found, nth)
         return found[nth - 1]
+
+
+def place_in(
+    session: Session, words: Words, text: str, asked: CommandOnParagraph[Any]
+) -> Span:
+    """The same as `Words.place`; but what is asked of a struck paragraph is refused in any case.
+
+    So nobody has to say first which of the places is meant.
+    """
+    try:
+        return words.place(text)
+    except ManyPlaces:
+        book = session.paragraphs()
+        if any(each.struck for each in book if each.id == words.paragraph):
+            raise refused(Code.STRUCK, asked) from None
+        raise
 
 
 def cells_of(session: Session, paragraph: int, words: Span) -> Span:
