@@ -148,12 +148,13 @@ def test_what_a_mark_goes_on_is_said_where_its_note_is_typed_further(
     sat.press("escape", "home", "enter", *"Oh, ", "enter", "U")
     assert "The print there has been changed since." in asked(sat)
     sat.press("y")
-    assert sat.state.heard == "The print there has been changed since. On “n i”."
+    assert sat.state.heard == "On “n i”. The print there has been changed since."
     sat.state = sat.desk.resized(sat.state, Size(40, 2))
-    changed = "The print there has been changed since.…"
-    assert sat.lines[1] == changed
+    # where it will be is seen first
+    words = "On “n i”. The print there has been…"
+    assert sat.lines[1] == words
     sat.press("end")
-    assert sat.lines == [changed, "Note of the mark: how far?"]
+    assert sat.lines == [words, "Note of the mark: how far?"]
     sat.state = sat.desk.resized(sat.state, Size(80, 24))
     sat.press("enter")
     assert "Mark 2, open, on “n i”: how far?" in " ".join(sat.lines)
@@ -363,7 +364,6 @@ def test_lines_that_were_pasted_into_an_edit_and_cut_short_go_on(
     assert prints[1:4] == ["The Tides of", "the sea.", "They come."]
 
 
-def test_lines_pasted_into_an_edit_go_on_after_the_one_that_is_in_the_book(
 @pytest.mark.parametrize("is_killed", [False, True])
 def test_lines_of_an_edit_that_are_given_up_again_leave_its_print(
     moon: Path, sit: Sit, is_killed: bool
@@ -391,6 +391,7 @@ def test_lines_of_an_edit_that_are_given_up_again_leave_its_print(
     assert "“The Tidesof the sea.”" in asked(sat)
 
 
+def test_lines_pasted_into_an_edit_go_on_after_the_one_that_is_in_the_book(
     moon: Path, sit: Sit, monkeypatch: pytest.MonkeyPatch
 ) -> None:
     with monkeypatch.context() as patched:

@@ -132,7 +132,8 @@ def asked_about(
         state = _on_cells(session, state, saved)
         assert state.paragraph is not None and state.chosen_cells is not None
         said = on_words(session, state.paragraph.id, state.chosen_cells)
-        field = replace(field, said=f"{changed} {said}".strip())
+        # on few lines no more than its front is seen: where the note will be
+        field = replace(field, said=f"{said}{changed}".strip())
     elif not places and not saved.aim.is_new:
         field = replace(field, purpose=Purpose.AFTER)
     table = saved.table if saved.table in state.tables else None
