@@ -711,6 +711,22 @@ def test_a_line_that_was_broken_off_comes_back_at_the_next_talk(
     assert talk.end("quit\r").status == 0
 
 
+def test_a_short_answer_that_was_broken_off_comes_back_with_its_command(
+    moon: Path,
+) -> None:
+    talk = talk_about(moon)
+    talk.type("change 1", ": ")
+    talk.type("far", ": ")
+    talk.shown_keys("Noe")
+    talk.stop_by(signal.SIGTERM)
+    talk = talk_about(moon)
+    assert talk.greeting[1:] == [
+        "Up brings back what was typed as a talk was broken off:",
+        *("change 1", "far", "Noe"),
+    ]
+    assert talk.end("quit\r").status == 0
+
+
 def wait_as_usual() -> None:
     """Has scribe end without a program that does nothing, as it does where no test has work."""
     pipe._LONG = 100

@@ -48,8 +48,9 @@ class BrokenOff(AbstractContextManager["BrokenOff"]):
         typed = [*its.typed, self._lines.broken_off]
         if not its.may_change:
             typed = typed[-1:]
-        new = [each for each in typed if len(each.strip()) > FEW]
-        if new:
+        new = [each for each in typed if each.strip()]
+        # a short answer is lacking to the command before it; a short line alone is typed anew
+        if len(new) > 1 or any(len(each.strip()) > FEW for each in new):
             others = (each for each in self._before if each not in new)
             self._keep((*others, *new))
 
