@@ -216,6 +216,24 @@ def test_a_text_that_is_taken_for_an_option_is_said_to_come_after_two_hyphens(
         assert said not in scribe(*words, folder=tmp_path).said
 
 
+def test_a_text_of_an_option_that_is_taken_for_one_is_said_to_be_joined_to_it(
+    tmp_path: Path,
+) -> None:
+    words = ["change", "m", "1", "--by", "-x", "men", "women"]
+    ran = scribe(*words, folder=tmp_path)
+    assert (ran.status, ran.said.splitlines()[:2]) == (
+        1,
+        [
+            "Argument --by: expected one argument.",
+            "A word that begins with a hyphen is joined to --by by =, as in --by=-x.",
+        ],
+    )
+    assert scribe("change", "m", "1", "a", "b", "--by=-x", folder=tmp_path).status == 2
+    for words in (["--by"], ["--by", "--nth", "2"]):
+        ran = scribe("change", "m", "1", "a", "b", *words, folder=tmp_path)
+        assert "expected one argument" in ran.said and "joined" not in ran.said
+
+
 def test_a_word_that_is_nearly_a_command_is_guessed(tmp_path: Path) -> None:
     ran = scribe("unod", "m", "1", folder=tmp_path)
     assert ran.status == 1

@@ -4,7 +4,7 @@ import argparse
 import re
 from collections.abc import Callable, Sequence
 from dataclasses import dataclass, replace
-from itertools import takewhile
+from itertools import pairwise, takewhile
 from pathlib import Path
 from typing import TYPE_CHECKING, Any, NoReturn, TypeVar, cast
 
@@ -29,6 +29,7 @@ if TYPE_CHECKING:
 Subparsers = Any
 Value = TypeVar("Value")
 _ARE_LACKING = re.compile("The following arguments are required: (?!COMMAND)")
+_LACKS_WORD = re.compile("Argument (--[a-z-]+): expected one argument")
 
 
 class WordsRefused(Exception):
@@ -298,8 +299,16 @@ def unknown_command(word: str, names: Sequence[str]) -> str:
 def taken_for_options(words: Sequence[str], refused: WordsRefused) -> list[str]:
     """What is said beside that words are lacking, where some were taken for options that aren't there."""
     options = re.findall(r"--?[a-z-]+", refused.usage)
-    before = takewhile(lambda word: word != "--", words)
+    before = list(takewhile(lambda word: word != "--", words))
     given = {each.partition("=")[0] for each in before if each[:1] == "-" != each}
+    if lacking := _LACKS_WORD.match(refused.sentence):
+        name = lacking[1]
+        is_taken = any(
+            word == name and after[:1] == "-" != after and after not in options
+            for word, after in pairwise(before)
+        )
+        said = f"A word that begins with a hyphen is joined to {name} by =, as in {name}=-x."
+        return [said] if is_taken else []
     if not _ARE_LACKING.match(refused.sentence) or given.issubset(options):
         return []
     return ["A word that begins with a hyphen, and is no option, comes after --."]
