@@ -571,7 +571,7 @@ def _has_all(rows: Iterable[object], found: Iterator[object]) -> bool:
 Result = TypeVar("Result")
 #: The first and the longest time between two attempts, in seconds.
 _FIRST_PAUSE, _LONGEST_PAUSE = 0.02, 0.25
-#: How often it is tried again while time is left, if the cause isn't seen.
+#: How often it is tried again, if the cause isn't seen: the other program ended before it was looked for.
 _UNSEEN = 4
 
 
@@ -585,11 +585,9 @@ def waited(attempt: Callable[[], Result], seconds: float) -> Result:
         except CannotOpen as refusal:
             left = until - time.monotonic()
             is_used = refusal.why in (Why.IN_USE, Why.LOG_IN_USE) and left > 0
-            # the other program may have ended before it was looked for
             is_unseen = refusal.why is Why.UNKNOWN
             unseen += is_unseen
-            may_be_used = unseen == 1 or unseen <= _UNSEEN and left > 0
-            if not is_used and not (is_unseen and may_be_used):
+            if not is_used and not (is_unseen and unseen <= _UNSEEN):
                 raise
         time.sleep(min(pause, max(left, 0)))
         pause = min(pause * 2, _LONGEST_PAUSE)

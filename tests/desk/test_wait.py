@@ -12,10 +12,14 @@ from pathlib import Path
 
 import pytest
 
-from braildesk import Session, opening
+from braildesk import CannotOpen, Session, opening
 from braildesk.desk.drafts import Drafts
 from braildesk.desk.import_note import ImportNote
+from braildesk.opening import waited
+from braildesk.protocol.asked import BookFile
 from braildesk.protocol.requests import Type
+from braildesk.protocol.sentences import Why
+from braildesk.refusals import cannot_open
 
 from scribe.cli import run_words
 from scribe.words.console import WAITING, Console
@@ -165,6 +169,24 @@ def test_an_import_that_goes_on_waits_too(
     words = ("import", str(moon), whole, "--continue", "--wait", "60")
     status, shown, _ = run_beside(monkeypatch, moon, 50, *words)
     assert (status, shown) == (0, "1 paragraph typed, number 4, by the table en.\n")
+
+
+@pytest.mark.parametrize("times, is_given", [(4, True), (5, False)])
+def test_a_book_that_was_free_again_whenever_it_was_looked_for_is_tried_a_few_times(
+    book: Path, times: int, is_given: bool
+) -> None:
+    refusals = [cannot_open(BookFile(str(book)), Why.UNKNOWN)] * times
+
+    def attempt() -> str:
+        if refusals:
+            raise refusals.pop()
+        return "opened"
+
+    if is_given:
+        assert waited(attempt, 0.0) == "opened"
+    else:
+        with pytest.raises(CannotOpen):
+            waited(attempt, 0.0)
 
 
 def test_seconds_are_numbers() -> None:
