@@ -421,6 +421,19 @@ def test_what_is_all_done_takes_nothing_away_that_is_noted_of_other_places(
     assert drafts.changes() == (its,)
 
 
+def test_changes_that_are_cut_short_push_out_none_that_were_before(
+    tides: Path,
+) -> None:
+    drafts = Drafts(tides)
+    place = NotedPlace(1, 8, 4, "tide", Became.OPEN)
+    notes = [
+        ChangeNote("tide", f"tide {n}", False, False, 1, (place,)) for n in range(12)
+    ]
+    for note in notes:
+        drafts.begin_change(note)
+    assert drafts.changes() == tuple(reversed(notes))
+
+
 @pytest.mark.parametrize("name", ["change-all", "talk"])
 def test_an_answer_ends_a_change_that_was_cut_short_and_the_end_of_the_input_does_not(
     tides: Path, name: str

@@ -43,10 +43,6 @@ except ImportError:
 
 #: How many texts that were given up are kept for a book.
 MOST_GIVEN_UP = 10
-#: How many imports that were cut short are noted for a book.
-MOST_IMPORTS = 10
-#: How many changes of words that were cut short are noted for a book.
-MOST_CHANGES = 5
 #: How many lines that were broken off are kept for a book.
 MOST_LINES = 10
 _Kept = TypeVar("_Kept")
@@ -473,7 +469,7 @@ class Drafts:
 
     def _note(self, notes: tuple[ImportNote, ...]) -> None:
         if notes:
-            values = [each.values() for each in notes[:MOST_IMPORTS]]
+            values = [each.values() for each in notes]
             self._write(Begun.IMPORTS, {"imports": values})
         else:
             self._remove(Begun.IMPORTS)
@@ -486,7 +482,7 @@ class Drafts:
 
     def _note_changes(self, notes: tuple[ChangeNote, ...]) -> None:
         if notes:
-            values = [each.values() for each in notes[:MOST_CHANGES]]
+            values = [each.values() for each in notes]
             self._write(Begun.CHANGES, {"changes": values})
         else:
             self._remove(Begun.CHANGES)
