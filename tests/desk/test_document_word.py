@@ -361,3 +361,72 @@ def test_what_is_shown_of_the_code_of_a_field_is_missing_if_it_has_no_result(
     assert found.texts == ["Half is pressed now or"]
     missing = [each.words for each in found.missing]
     assert missing == ["1a 2b c", "Press here", "Go there"]
+
+
+@pytest.mark.parametrize(
+    "properties, what",
+    [
+        ('<w:position w:val="8"/>', LossKind.SUPERSCRIPT),
+        ('<w:position w:val="-2"/>', LossKind.SUBSCRIPT),
+        (
+            '<w:position w:val="6"/><w:vertAlign w:val="baseline"/>',
+            LossKind.SUPERSCRIPT,
+        ),
+        (
+            '<w:position w:val="-4"/><w:vertAlign w:val="superscript"/>',
+            LossKind.SUPERSCRIPT,
+        ),
+        ("<w:dstrike/>", LossKind.EMPHASIS),
+        ('<w:em w:val="dot"/>', LossKind.EMPHASIS),
+        ("<w:caps/>", LossKind.EMPHASIS),
+        ('<w:smallCaps w:val="0"/><w:caps/>', LossKind.EMPHASIS),
+        ('<w:highlight w:val="yellow"/>', LossKind.EMPHASIS),
+        ('<w:bdr w:val="single"/>', LossKind.EMPHASIS),
+    ],
+)
+def test_what_is_raised_or_emphasized_in_other_ways_is_noted(
+    tmp_path: Path, properties: str, what: LossKind
+) -> None:
+    own = paragraph(run("At "), run("two", properties), run(" in the night"))
+    by_style = paragraph(run("At "), run("two", '<w:rStyle w:val="A"/>'))
+    its = (
+        '<w:style w:type="character" w:styleId="A"><w:name w:val="A"/>'
+        f"<w:rPr>{properties}</w:rPr></w:style>"
+    )
+    path = docx(tmp_path / "a.docx", own + by_style, styles=its)
+    found = read_manuscript(path)
+    assert found.texts == ["At two in the night", "At two"]
+    assert found.losses == (
+        Loss(what, "two", "At two in the night"),
+        Loss(what, "two", "At two"),
+    )
+
+
+@pytest.mark.parametrize(
+    "properties",
+    [
+        '<w:position w:val="0"/>',
+        '<w:dstrike w:val="0"/>',
+        '<w:em w:val="none"/>',
+        '<w:caps w:val="false"/>',
+        '<w:highlight w:val="none"/>',
+        '<w:bdr w:val="nil"/>',
+    ],
+)
+def test_what_says_that_words_are_plain_is_no_emphasis(
+    tmp_path: Path, properties: str
+) -> None:
+    body = paragraph(run("At "), run("two", properties))
+    assert read_manuscript(docx(tmp_path / "a.docx", body)).losses == ()
+
+
+def test_a_large_first_letter_and_what_has_no_text_are_not_said_to_be_lowered(
+    tmp_path: Path,
+) -> None:
+    lowered = '<w:position w:val="-10"/>'
+    frame = '<w:framePr w:dropCap="drop" w:lines="2"/>'
+    tab = f"<w:r><w:rPr>{lowered}</w:rPr><w:tab/></w:r>"
+    body = paragraph(run("T", lowered), properties=frame)
+    body += paragraph(run("he night"), tab, run("fell"), run(" ", lowered))
+    found = read_manuscript(docx(tmp_path / "a.docx", body))
+    assert (found.texts, found.losses) == (["The night fell"], ())

@@ -117,9 +117,18 @@ def with_numbers(data: bytes, bullet: str) -> tuple[bytes, list[Loss]]:
                 losses += word_print.italics(root, styles)
                 roots.append(root)
             elif name == _STYLES:
-                part = rewritten(part, Rewriting(prefixes=_PREFIXES))
+                part = _restyled(part, styles)
             other.writestr(name, part)
     return made.getvalue(), [*lists.losses, *losses, *notes_again(roots)]
+
+
+def _restyled(part: bytes, styles: Element) -> bytes:
+    """The part of the styles, of whose emphasis pandoc knows all."""
+    emphasis = word_print.emphasis_ahead(styles)
+    ahead = (emphasis.get(id(each), "") for each in styles.iter())
+    return rewritten(
+        part, Rewriting(ahead_of=lambda name: next(ahead), prefixes=_PREFIXES)
+    )
 
 
 def _numbered(part: bytes, root: Element, labels: Iterator[str]) -> bytes:

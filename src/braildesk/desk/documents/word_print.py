@@ -1,8 +1,8 @@
 """What Word shows in print that isn't text of a document in DOCX, as pandoc reads it, written as text.
 
 These are the readings of characters, which stand above them, and the boxes of forms: older ones, which
-have nothing in the text, and those of newer ones that are symbols of a font. pandoc knows no emphasis
-of whole paragraphs either, no cells of a table of which nothing says how many columns it has, and not
+have nothing in the text, and those of newer ones that are symbols of a font. Emphasis of which pandoc knows
+nothing is written as another that it knows. It knows none of whole paragraphs either, no cells of a table of which nothing says how many columns it has, and not
 that a row may begin at a later column than others.
 """
 
@@ -21,6 +21,13 @@ _W14 = "{http://schemas.microsoft.com/office/word/2010/wordml}"
 _RUN, _RUBY = f"{_W}r", f"{_W}ruby"
 _TABLE, _ROW, _CELL = f"{_W}tbl", f"{_W}tr", f"{_W}tc"
 _OFF = ("0", "false", "off")
+#: Emphasis of which pandoc knows nothing, each with one that it knows, and what says that there is none.
+_EMPHASIS = {
+    "dstrike": "strike",
+    "caps": "smallCaps",
+    **dict.fromkeys(("em", "highlight", "bdr"), "i"),
+}
+_NO_EMPHASIS = (*_OFF, "none", "nil")
 #: What isn't typed: what was deleted, is in a text box, or is for older programs.
 GONE = (
     f"{_W}txbxContent",
@@ -56,8 +63,11 @@ def texts_ahead(root: Element) -> dict[int, str]:
     """What stands in XML ahead of elements of a part, by their places in it; and see `replaced`."""
     found: dict[int, str] = {}
     symbols, grids = _symbols(root), dict(_grids(root))
+    emphasis = emphasis_ahead(root)
     lettered = dict(_lettered(root))
     for place, element in enumerate(root.iter()):
+        if id(element) in emphasis:
+            found[place] = emphasis[id(element)]
         if id(element) in lettered:
             found[place] = "".join(
                 _symbol(each, lettered[id(element)]) for each in element.text or ""
@@ -74,6 +84,45 @@ def texts_ahead(root: Element) -> dict[int, str]:
             base, reading = (_print(element, name) for name in ("rubyBase", "rt"))
             found[place] = _text(f"{base}({reading})" if reading else base)
     return found
+
+
+def emphasis_ahead(root: Element) -> dict[int, str]:
+    """The emphasis that pandoc knows in place of other kinds, and what stands above or below the line, ahead
+    of the first property of a run or of a style of characters, by the identity of that.
+    """
+    large = {
+        id(run)
+        for paragraph in root.iter(f"{_W}p")
+        if paragraph.find(f"{_W}pPr/{_W}framePr[@{_W}dropCap]") is not None
+        for run in paragraph.iter(_RUN)
+    }
+    # what is lowered is often a formula, which is a picture
+    bearers = [
+        run for run in root.iter(_RUN) if _has_text(run) and id(run) not in large
+    ]
+    bearers += root.iterfind(f"{_W}style[@{_W}type='character']")
+    found: dict[int, str] = {}
+    for bearer in bearers:
+        properties = bearer.find(f"{_W}rPr")
+        if properties is not None and (written := "".join(_known(properties))):
+            found[id(properties[0])] = written
+    return found
+
+
+def _has_text(run: Element) -> bool:
+    return any((each.text or "").strip() for each in run.iterfind(f"{_W}t"))
+
+
+def _known(properties: Element) -> Iterator[str]:
+    """What some properties have that pandoc doesn't know, as it does."""
+    said = {each.tag.removeprefix(_W): each.get(f"{_W}val") for each in properties}
+    for name, known in _EMPHASIS.items():
+        if name in said and said[name] not in _NO_EMPHASIS:
+            yield f"<w:{known}/>"
+    height = whole(said.get("position"), 0)
+    if height and said.get("vertAlign", "baseline") == "baseline":
+        way = "superscript" if height > 0 else "subscript"
+        yield f'<w:vertAlign w:val="{way}"/>'
 
 
 def replaced(root: Element) -> frozenset[int]:
