@@ -1019,6 +1019,7 @@ def test_pages_outside_of_the_order_of_reading_are_typed_and_named(
     assert found.texts == ["Far.[1] Old.", "[1: Very far.]", "The answers", "More"]
     assert found.missing == ()
     assert lost(found, LossKind.ASIDE) == ["The answers", "1. Very far. More"]
+    assert lost(found, LossKind.CONTENTS) == ["One"]
 
 
 def test_a_page_of_two_names_is_typed_once_and_no_link_leads_to_a_namesake(

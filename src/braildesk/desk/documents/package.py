@@ -60,11 +60,11 @@ class Package:
         self.repeated = frozenset(each for each in counts if counts[each] > 1)
 
     def pages(self) -> Iterator[Page]:
-        """All pages, those at the end to which no order of reading leads."""
+        """All pages, those at the end to which no order of reading leads, with the list for programs."""
         for reference in self._order:
             item = self._items[reference.get("idref")]
             yield self._page(item, reference.get("linear") != "no")
-        for item in self._outside():
+        for item in (*self._outside(), *self._outside(are_lists=True)):
             yield self._page(item, False)
 
     def whole(self) -> bytes:
@@ -82,7 +82,7 @@ class Package:
                 SubElement(spine, name, idref=item.get("id", ""))
         return ElementTree.tostring(self._root)
 
-    def _outside(self) -> list[Element]:
+    def _outside(self, *, are_lists: bool = False) -> list[Element]:
         # a page may have two names
         found = {self._part_of(item): item for item in self._items.values()}
         there = {
@@ -94,7 +94,7 @@ class Package:
             for part, item in found.items()
             if part not in there
             and item.get("media-type") == _PAGE
-            and not _is_list(item)
+            and _is_list(item) == are_lists
             and part in self._parts
         ]
 
