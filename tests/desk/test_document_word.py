@@ -377,6 +377,8 @@ def test_what_is_shown_of_the_code_of_a_field_is_missing_if_it_has_no_result(
             LossKind.SUPERSCRIPT,
         ),
         ("<w:dstrike/>", LossKind.EMPHASIS),
+        ('<w:u w:val="double"/>', LossKind.EMPHASIS),
+        ('<w:u w:val="words"/>', LossKind.EMPHASIS),
         ('<w:em w:val="dot"/>', LossKind.EMPHASIS),
         ("<w:caps/>", LossKind.EMPHASIS),
         ('<w:smallCaps w:val="0"/><w:caps/>', LossKind.EMPHASIS),
@@ -407,6 +409,7 @@ def test_what_is_raised_or_emphasized_in_other_ways_is_noted(
     [
         '<w:position w:val="0"/>',
         '<w:dstrike w:val="0"/>',
+        '<w:u w:val="none"/>',
         '<w:em w:val="none"/>',
         '<w:caps w:val="false"/>',
         '<w:highlight w:val="none"/>',
@@ -430,3 +433,42 @@ def test_a_large_first_letter_and_what_has_no_text_are_not_said_to_be_lowered(
     body += paragraph(run("he night"), tab, run("fell"), run(" ", lowered))
     found = read_manuscript(docx(tmp_path / "a.docx", body))
     assert (found.texts, found.losses) == (["The night fell"], ())
+
+
+def test_text_that_a_style_hides_is_noted_unless_it_is_shown_again(
+    tmp_path: Path,
+) -> None:
+    styles = "".join(
+        f'<w:style w:type="{kind}" w:styleId="{name}"><w:name w:val="{name}"/>'
+        f'<w:basedOn w:val="{base}"/><w:rPr>{inner}</w:rPr></w:style>'
+        for kind, name, base, inner in (
+            ("character", "A", "", "<w:vanish/>"),
+            ("character", "B", "A", ""),
+            ("character", "C", "A", '<w:vanish w:val="0"/>'),
+            ("paragraph", "P", "", "<w:vanish/>"),
+            ("paragraph", "Q", "R", ""),
+            ("paragraph", "R", "Q", ""),
+        )
+    )
+    its = (run(text, f'<w:rStyle w:val="{text}"/>') for text in "ABC")
+    shown = run("shown", '<w:vanish w:val="0"/>')
+    body = paragraph(*its) + paragraph(run("hidden "), shown, style="P")
+    body += paragraph(run("Plain"), style="Q")
+    found = read_manuscript(docx(tmp_path / "a.docx", body, styles=styles))
+    assert found.texts == ["ABC", "hidden shown", "Plain"]
+    assert [(each.what, each.words) for each in found.losses] == [
+        (LossKind.HIDDEN, "A"),
+        (LossKind.HIDDEN, "B"),
+        (LossKind.HIDDEN, "hidden"),
+    ]
+
+
+def test_the_title_of_a_table_is_parted_from_its_description(tmp_path: Path) -> None:
+    described = (
+        '<w:tblCaption w:val="Tides"/><w:tblDescription w:val="High, &amp; low"/>'
+    )
+    body = table((cell("a"),)).replace(
+        "<w:tblGrid>", f"<w:tblPr>{described}</w:tblPr><w:tblGrid>"
+    )
+    found = read_manuscript(docx(tmp_path / "a.docx", body))
+    assert found.texts == ["Tides High, & low", "a"]

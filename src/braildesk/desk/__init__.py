@@ -16,8 +16,8 @@ where volumes should begin, and ``export`` and ``proof`` write them. A manuscrip
 ``manuscripts``: a text by ``manuscript``, a document by ``document`` of the package ``documents``
 (with ``kinds``, ``options``, ``markup``, ``pages``, ``quotations``, ``package``, ``sheets``,
 ``numbers``, ``numbers_of_odt``, ``styles_of_odt``, ``tables_of_odt``, ``table_places``,
-``word_print``, ``word_notes``, ``xml_writing``, ``rtf_fields``, ``rtf_groups``, ``rtf_words``,
-``doc_text``, ``streams``, ``field_codes``, ``pandoc``, ``raw_html``, ``tree``, ``nodes``,
+``word_print``, ``word_notes``, ``word_styles``, ``xml_writing``, ``rtf_fields``, ``rtf_groups``,
+``rtf_words``, ``doc_text``, ``streams``, ``field_codes``, ``pandoc``, ``raw_html``, ``tree``, ``nodes``,
 ``notes``, ``ways_back``, ``markdown_front``, ``markdown_notes``, ``markdown_tables``,
 ``markdown_words``, ``contents`` and ``reading``), with ``replacements`` for characters that no
 table has. ``validation`` and ``text_faults`` say what keeps it from being typed, ``intake`` and

@@ -2,7 +2,7 @@
 
 `kinds` says what a file is, `document` reads one, and `reading` is what came of it. Before `pandoc`
 gets it, `numbers` writes the numbers that Word shows into a DOCX, `word_print` what else it shows,
-`word_notes` finds its notes of several numbers, `styles_of_odt` has the emphasis of styles,
+`word_notes` finds its notes of several numbers, `word_styles` what it hides, `styles_of_odt` has the emphasis of styles,
 `tables_of_odt` keeps the places of cells, `table_places` counts those in which none begins, as
 `markdown_tables` does, `package` has the pages of an EPUB, `pages` keeps the names of their links
 and `quotations` their marks, `markdown_notes` those of notes, and `markdown_front` has one front

@@ -21,6 +21,7 @@ from itertools import islice
 from pathlib import PurePosixPath
 from xml.etree.ElementTree import Element
 
+from braildesk.desk.documents import word_styles
 from braildesk.desk.documents.field_codes import shown_of_code
 from braildesk.desk.documents.kinds import (
     ManuscriptKind,
@@ -107,7 +108,7 @@ _SVG = "{urn:oasis:names:tc:opendocument:xmlns:svg-compatible:1.0}"
 _DOCX_TEXTS = re.compile(r"word/(document|footnotes|endnotes)\d*\.xml")
 _DOCX_EDGES = re.compile(r"word/(header|footer)\d*\.xml")
 _DOCX_DRAWINGS = re.compile(r"word/(charts/chart|diagrams/data)\d*\.xml")
-_DOCX_COMMENTS = "word/comments.xml"
+_DOCX_COMMENTS, _DOCX_STYLES = "word/comments.xml", "word/styles.xml"
 _EMBEDDED = re.compile(
     r"word/(embeddings|afchunk)[^/]*(/.+|\..+)|word/.*\.(mht|altchunk)"
 )
@@ -375,12 +376,15 @@ def _root(container: zipfile.ZipFile, name: str) -> Element:
 
 
 def _of_docx(container: zipfile.ZipFile, found: Contents) -> None:
+    named = _DOCX_STYLES in container.namelist()
+    styles = _root(container, _DOCX_STYLES) if named else Element("")
+    hidden = frozenset(word_styles.hiding(styles))
     for name in container.namelist():
         if _DOCX_TEXTS.fullmatch(name):
             root = _root(container, name)
             found.passages += _paragraphs(root)
             found.passages += filter(None, map(shown_of_code, _codes(root)))
-            _set_aside(root, found)
+            _set_aside(root, hidden, found)
             found.losses += map(partial(Loss, LossKind.PICTURE, ""), _linked(root))
         elif _DOCX_EDGES.fullmatch(name):
             for passage in _paragraphs(_root(container, name)):
@@ -397,12 +401,10 @@ def _of_docx(container: zipfile.ZipFile, found: Contents) -> None:
             found.lose(LossKind.EMBEDDED, PurePosixPath(name).name)
 
 
-def _set_aside(root: Element, found: Contents) -> None:
-    """Notes the print that a part of a document hides, and that which was deleted."""
-    for run in root.iter(f"{_W}r"):
-        hidden = run.find(f"{_W}rPr/{_W}vanish")
-        if hidden is not None and hidden.get(f"{_W}val") not in _OFF:
-            found.lose(LossKind.HIDDEN, "".join(_runs(run, [])))
+def _set_aside(root: Element, hidden: Collection[str], found: Contents) -> None:
+    """Notes the print that a part of a document, or styles by their names, hide, and that which was deleted."""
+    for run in word_styles.hidden_runs(root, hidden):
+        found.lose(LossKind.HIDDEN, "".join(_runs(run, [])))
     for tag in _DELETED:
         for each in root.iter(tag):
             texts = (*each.iter(f"{_W}delText"), *each.iter(f"{_W}t"))

@@ -11,7 +11,7 @@ from bisect import bisect_right
 from collections.abc import Iterator, Mapping, Sequence
 from itertools import accumulate
 from xml.etree.ElementTree import Element
-from xml.sax.saxutils import escape
+from xml.sax.saxutils import escape, quoteattr
 
 from braildesk.desk.documents.reading import Loss, LossKind, plain, whole
 from braildesk.desk.documents.table_places import Places
@@ -19,6 +19,7 @@ from braildesk.desk.documents.table_places import Places
 _W = "{http://schemas.openxmlformats.org/wordprocessingml/2006/main}"
 _W14 = "{http://schemas.microsoft.com/office/word/2010/wordml}"
 _RUN, _RUBY = f"{_W}r", f"{_W}ruby"
+_DESCRIPTION = f"{_W}tblDescription"
 _TABLE, _ROW, _CELL = f"{_W}tbl", f"{_W}tr", f"{_W}tc"
 _OFF = ("0", "false", "off")
 #: Emphasis of which pandoc knows nothing, each with one that it knows, and what says that there is none.
@@ -28,6 +29,8 @@ _EMPHASIS = {
     **dict.fromkeys(("em", "highlight", "bdr"), "i"),
 }
 _NO_EMPHASIS = (*_OFF, "none", "nil")
+#: The line below words that pandoc knows, and that which is none.
+_LINES = (None, "single", "none")
 #: What isn't typed: what was deleted, is in a text box, or is for older programs.
 GONE = (
     f"{_W}txbxContent",
@@ -66,6 +69,10 @@ def texts_ahead(root: Element) -> dict[int, str]:
     emphasis = emphasis_ahead(root)
     lettered = dict(_lettered(root))
     for place, element in enumerate(root.iter()):
+        if element.tag == _DESCRIPTION:
+            # pandoc has it right after the title of the table
+            value = element.get(f"{_W}val", "")
+            found[place] = f"<w:tblDescription w:val={quoteattr(f' {value}')}/>"
         if id(element) in emphasis:
             found[place] = emphasis[id(element)]
         if id(element) in lettered:
@@ -119,6 +126,8 @@ def _known(properties: Element) -> Iterator[str]:
     for name, known in _EMPHASIS.items():
         if name in said and said[name] not in _NO_EMPHASIS:
             yield f"<w:{known}/>"
+    if said.get("u") not in _LINES:
+        yield '<w:u w:val="single"/>'
     height = whole(said.get("position"), 0)
     if height and said.get("vertAlign", "baseline") == "baseline":
         way = "superscript" if height > 0 else "subscript"
@@ -131,7 +140,10 @@ def replaced(root: Element) -> frozenset[int]:
     return frozenset(
         place
         for place, element in enumerate(root.iter())
-        if id(element) in symbols or element.tag == _RUBY and _is_replaced(element)
+        if id(element) in symbols
+        or element.tag == _DESCRIPTION
+        or element.tag == _RUBY
+        and _is_replaced(element)
     )
 
 
