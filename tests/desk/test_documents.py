@@ -2296,5 +2296,43 @@ def test_what_a_sheet_does_not_show_is_typed_and_noted() -> None:
     )
     page = f"<html><head><style>{sheet}</style></head><body>{body}</body></html>"
     found = read_document(page.encode(), ManuscriptKind.HTML)
-    assert lost(found, LossKind.HIDDEN) == ["two", "four five", "nine", "ten"]
+    hidden = ["two", "four five", "six", "nine", "ten", "eleven"]
+    assert lost(found, LossKind.HIDDEN) == hidden
     assert "ten" in found.texts
+
+
+def test_what_is_important_goes_before_all_that_is_not() -> None:
+    sheet = (
+        "p { display: none ! important } #a { display: block } i { display: none }"
+        " ol { list-style: none !important } #b { list-style: decimal }"
+    )
+    body = (
+        "<p id=a>one</p><p style='display:block'>two</p><p style='display:block !important'>three</p>"
+        "<div><i style='display:inline'>four</i></div><ol id=b style='list-style:decimal'><li>five</ol>"
+    )
+    page = f"<html><head><style>{sheet}</style></head><body>{body}</body></html>"
+    found = read_document(page.encode(), ManuscriptKind.HTML)
+    assert lost(found, LossKind.HIDDEN) == ["one", "two"]
+    assert lost(found, LossKind.LIST) == ["five"]
+
+
+def test_what_fields_and_parts_of_a_page_show_is_print_or_missing() -> None:
+    body = (
+        "<p>In <input placeholder='Your name'><input value=Ann placeholder=no><input type=password placeholder=Secret>"
+        "<input type=image alt='To go'><select><optgroup label='From &amp; to'><option>One</select>"
+        "<p>At <map><area alt='North land'></map> sea<textarea placeholder='Say it'></textarea>"
+        "<iframe srcdoc='&lt;p&gt;Far&lt;b&gt;away'></iframe>"
+    )
+    found = read_document(f"<html>{body}</html>".encode(), ManuscriptKind.HTML)
+    choice = "In Your name Ann Secret To go From & to One"
+    assert found.texts == [choice, "At", "sea"]
+    missing = [each.words for each in found.missing]
+    assert missing == ["North land", "Say it", "Far away"]
+
+
+def test_boxes_that_open_and_parts_to_search_are_paragraphs() -> None:
+    body = "<p>one<dialog>two</dialog><dialog open>three</dialog><search>four</search><search>five</search>"
+    found = read_document(f"<html>{body}</html>".encode(), ManuscriptKind.HTML)
+    assert found.texts == ["one", "two", "three", "four", "five"]
+    assert found.missing == ()
+    assert lost(found, LossKind.HIDDEN) == ["two"]

@@ -39,6 +39,8 @@ from braildesk.desk.documents.markup import (
     Tags,
     characters_of_page,
     field_words,
+    group_words,
+    words_beside,
 )
 from braildesk.desk.documents.notes import leads_back
 from braildesk.desk.documents.package import Package
@@ -784,6 +786,8 @@ class _Html(Tags):
             self._back, self._open = tag, 1
         self._describe(tag, attrs)
         self._part(tag)
+        if words := group_words(tag, dict(attrs)):
+            self._add(f"{words} ")
         if tag == "a" and "#" in (dict(attrs).get("href") or ""):
             self._add(_SEAM)
         elif tag == QUOTATION:
@@ -860,7 +864,9 @@ class _Html(Tags):
         own = attributes.get("style") or ""
         display = self._sheet.display_of(self._path, own)
         text = len(self._texts) - 1
-        if self._unshown is None and ("hidden" in attributes or display == "none"):
+        is_closed = tag == "dialog" and "open" not in attributes
+        is_hidden = "hidden" in attributes or display == "none" or is_closed
+        if self._unshown is None and is_hidden:
             self._unshown = len(self._path) - 1, text, len(self._texts[text])
         elif display in _APART and tag not in BLOCKS | PARTED:
             self._apart.append(len(self._path) - 1)
@@ -921,9 +927,10 @@ class _Html(Tags):
 
     def _describe(self, tag: str, attrs: list[tuple[str, str | None]]) -> None:
         """Takes the description of a picture, and what is in a field of a form, for print."""
+        its = dict(attrs)
         if tag == "img":
-            self.handle_data(f" {dict(attrs).get('alt') or ''} ")
-        elif words := field_words(tag, dict(attrs)):
+            self.handle_data(f" {its.get('alt') or ''} ")
+        elif words := field_words(tag, its) or words_beside(tag, its):
             self.handle_data(f" {words} ")
 
     def _end_reading(self) -> None:

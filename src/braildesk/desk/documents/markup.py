@@ -30,15 +30,18 @@ _MARKS = ((b"\xff\xfe", "utf-16"), (b"\xfe\xff", "utf-16"), (b"", "utf-8-sig"))
 #: The elements that part paragraphs, as pandoc has them: all others stand within a line.
 BLOCKS = frozenset(
     "address applet area article aside audio blockquote body br button canvas caption case"
-    " caution center col colgroup dd default details dir div dl dt embed epigraph equation"
+    " caution center col colgroup dd default details dialog dir div dl dt embed epigraph equation"
     " example fieldset figcaption figure footer form formalpara frameset h1 h2 h3 h4 h5 h6 head"
     " header hgroup hr html iframe important isindex li main map menu meta nav noframes noscript"
-    " note object ol output p para pre procedure progress screen script section sidebar simpara"
+    " note object ol output p para pre procedure progress screen script search section sidebar simpara"
     " source style summary svg switch synopsis table task tbody td textarea tfoot th"
     " thead tip title tr ul video warning".split()
 )
 #: What parts words and no paragraphs: what stands in a list to choose from, and the title of some fields.
 PARTED = frozenset({"legend", "optgroup", "option"})
+#: What of a page stands for something else, and what takes tags out of a page that is written in another.
+_BESIDE = {"area": "alt", "iframe": "srcdoc", "textarea": "placeholder"}
+_ANY_TAG = re.compile("<[^<>]*>")
 #: The fields of forms in which no words are seen.
 _WORDLESS = frozenset("hidden checkbox radio password file color range image".split())
 
@@ -83,10 +86,25 @@ class Tags(HTMLParser):
 
 
 def field_words(tag: str, attributes: Mapping[str, str | None]) -> str:
-    """The words that a field of a form shows, as a button does."""
+    """The words that a field of a form shows, as a button does, or one that is to be filled in."""
+    if tag != "input":
+        return ""
     kind = (attributes.get("type") or "").lower()
-    is_seen = tag == "input" and kind not in _WORDLESS
-    return (attributes.get("value") or "").strip() if is_seen else ""
+    names = ("value", "placeholder")
+    if kind in _WORDLESS:
+        names = {"password": ("placeholder",), "image": ("alt",)}.get(kind, ())
+    shown = ((attributes.get(name) or "").strip() for name in names)
+    return next(filter(None, shown), "")
+
+
+def group_words(tag: str, attributes: Mapping[str, str | None]) -> str:
+    """The words that stand above some of those from which there is to choose in a form."""
+    return (attributes.get("label") or "").strip() if tag == "optgroup" else ""
+
+
+def words_beside(tag: str, attributes: Mapping[str, str | None]) -> str:
+    """The words of an element that are shown and that no program types, as of a part of a picture."""
+    return _ANY_TAG.sub(" ", attributes.get(_BESIDE.get(tag, "")) or "")
 
 
 def characters_of_page(data: bytes) -> str:

@@ -26,6 +26,7 @@ from braildesk.desk.documents.markup import (
     Tags,
     characters_of_page,
     field_words,
+    group_words,
 )
 from braildesk.desk.documents.package import Package
 from braildesk.desk.documents.quotations import QUOTATION, Quotations
@@ -42,7 +43,7 @@ _TITLE_PAGE = re.compile(r"""(epub:type\s*=\s*["'][^"']*)titlepage""")
 _FOLDERS = re.compile(r"""(\shref\s*=\s*["'])[^"'#:?<>]*/(([^"'#:?<>/]+)#)""")
 #: Elements that are written as others. Of those within a line pandoc reads no page if a block ends them.
 _WRITTEN = {
-    **dict.fromkeys(("aside", "figure", "figcaption"), "div"),
+    **dict.fromkeys(("aside", "dialog", "figure", "figcaption", "search"), "div"),
     **dict.fromkeys(("dfn", "kbd", "mark", "q"), "span"),
 }
 #: What a program that saved a page says of its address, and where a link leads.
@@ -172,6 +173,8 @@ class _Rewriting(Tags):
         after = ""
         if tag in _NAMELESS and (name := dict(attrs).get("id")):
             after = f'<span id="{escape(name)}"></span>'
+        elif words := group_words(tag, dict(attrs)):
+            after = f" {escape(words)} "
         self._rewrite(tag, attrs, after + self._before_reading(tag))
         if tag == QUOTATION and not self._templates:
             stop = self._start() + len(self.get_starttag_text() or "")

@@ -38,6 +38,8 @@ _BEFORE = re.compile("::?before$", re.IGNORECASE)
 _CONTENT = re.compile(r"(?:^|[;\s])content\s*:([^;]*)", re.IGNORECASE)
 _COUNTER = re.compile(r"\bcounters?\s*\(", re.IGNORECASE)
 _COUNTED = "counted"
+#: Whether declarations are important: first those that aren't.
+_GRAVE = (False, True)
 #: What only says where another value is taken from.
 _ELSEWHERE = ("inherit", "initial", "unset", "revert", "revert-layer")
 
@@ -83,8 +85,13 @@ class Rule:
     #: Whether each but the first stands right within the one before it.
     is_child: tuple[bool, ...]
     values: Mapping[str, str]
-    #: How grave it is beside others.
-    weight: tuple[int, int, int]
+    #: How grave it is beside others; those that are said to be important are graver than all others.
+    weight: tuple[bool, int, int, int]
+
+    @property
+    def is_important(self) -> bool:
+        """Whether it goes before what an element says itself."""
+        return self.weight[0]
 
     def fits(self, path: Sequence[PageElement]) -> bool:
         """Whether it is for the last of some elements, each of which is within the one before it."""
@@ -112,7 +119,7 @@ class Sheet:
         self._showing: dict[str, list[tuple[int, Rule]]] = {}
         self._shown: dict[PageElement, list[Rule]] = {}
         #: What they say of elements that were asked about, each after those that it is within.
-        self._found: dict[tuple[PageElement, ...], dict[str, str]] = {}
+        self._found: dict[tuple[PageElement, ...], tuple[dict[str, str], ...]] = {}
 
     def add(self, rules: Iterable[Rule]) -> None:
         """Adds the rules of a sheet after the others."""
@@ -131,7 +138,8 @@ class Sheet:
 
         ``path`` is the element and those that it is within, ``own`` the style that it has itself.
         """
-        values = self._values(tuple(path[-_INNERMOST:])) | _values(own)
+        plain, important = self._values(tuple(path[-_INNERMOST:]))
+        values = plain | _values(own, False) | important | _values(own, True)
         display = values.get(_DISPLAY, "list-item")
         if path[-1].tag == "li" and "list-item" not in display:
             return "none"
@@ -145,14 +153,16 @@ class Sheet:
 
     def display_of(self, path: Sequence[PageElement], own: str) -> str:
         """How an element is shown, if that is said; ``path`` and ``own`` are as above."""
-        if said := _values(own).get(_DISPLAY):
+        if said := _values(own, True).get(_DISPLAY):
             return said
+        own_said = _values(own, False).get(_DISPLAY, "")
         its = self._shown.get(path[-1])
         if its is None:
             its = self._shown[path[-1]] = self._for(path[-1])
         inner = path[-_INNERMOST:] if its else ()
-        fit = (rule.values[_DISPLAY] for rule in reversed(its) if rule.fits(inner))
-        return next(fit, "")
+        graver = (rule for rule in reversed(its) if rule.is_important or not own_said)
+        fit = (rule.values[_DISPLAY] for rule in graver if rule.fits(inner))
+        return next(fit, own_said)
 
     def _for(self, element: PageElement) -> list[Rule]:
         """Those rules that say how an element is shown, wherever it stands."""
@@ -164,10 +174,14 @@ class Sheet:
         its = (found[place] for place in sorted(found))
         return [rule for rule in its if rule.selectors[-1].fits(element)]
 
-    def _values(self, path: tuple[PageElement, ...]) -> dict[str, str]:
+    def _values(self, path: tuple[PageElement, ...]) -> tuple[dict[str, str], ...]:
+        """What is said of an element, and what of that is important."""
         if path not in self._found:
-            fit = (rule.values for rule in self._rules if rule.fits(path))
-            self._found[path] = {name: each[name] for each in fit for name in each}
+            values: tuple[dict[str, str], ...] = ({}, {})
+            for rule in self._rules:
+                if rule.fits(path):
+                    values[rule.is_important].update(rule.values)
+            self._found[path] = values
         return self._found[path]
 
 
@@ -232,12 +246,13 @@ def _rules(text: str, depth: int) -> Iterator[Rule]:
         if _FOR_PRINT.fullmatch(head):
             yield from _rules(body, depth + 1) if depth < _DEEPEST else ()
         elif not head.startswith("@"):
-            values, counted = _values(body), _counted(body)
+            both, counted = [_values(body, each) for each in _GRAVE], [_counted(body)]
             for selector in map(str.strip, head.split(",")):
-                its = counted if _BEFORE.search(selector) else values
-                rule = _rule(_BEFORE.sub("", selector), its) if its else None
-                if rule is not None:
-                    yield rule
+                its = counted if _BEFORE.search(selector) else both
+                for is_important, values in zip(_GRAVE, its):
+                    name = _BEFORE.sub("", selector)
+                    rule = _rule(name, values, is_important) if values else None
+                    yield from [] if rule is None else [rule]
 
 
 def _blocks(text: str) -> Iterator[tuple[str, str]]:
@@ -257,7 +272,7 @@ def _blocks(text: str) -> Iterator[tuple[str, str]]:
                 place = brace.end()
 
 
-def _rule(selector: str, values: Mapping[str, str]) -> Rule | None:
+def _rule(selector: str, values: Mapping[str, str], is_important: bool) -> Rule | None:
     """The rule of a selector; None of one that isn't known."""
     selectors: list[_Selector] = []
     is_child: list[bool] = []
@@ -276,7 +291,8 @@ def _rule(selector: str, values: Mapping[str, str]) -> Rule | None:
         selectors.append(_Selector((known[1] or "*").lower(), names, classes))
     if not selectors or len(is_child) != len(selectors) - 1:
         return None
-    return Rule(tuple(selectors), tuple(is_child), values, _weight(selectors))
+    weight = is_important, *_weight(selectors)
+    return Rule(tuple(selectors), tuple(is_child), values, weight)
 
 
 def _weight(selectors: Sequence[_Selector]) -> tuple[int, int, int]:
@@ -293,14 +309,14 @@ def _counted(text: str) -> dict[str, str]:
     return {_COUNTED: "yes" * bool(_COUNTER.search(found[-1]))} if found else {}
 
 
-def _values(text: str) -> dict[str, str]:
-    """What declarations say of the marks of lists, and of what is shown."""
+def _values(text: str, is_important: bool) -> dict[str, str]:
+    """What declarations say of the marks of lists, and of what is shown: those that are important, or the others."""
     values: dict[str, str] = {}
     for declaration in text.split(";"):
         name, _, value = declaration.partition(":")
-        words = value.lower().replace("!important", " ").split()
-        name = name.strip().lower()
-        if not words or words[0] in _ELSEWHERE:
+        said, sign, _ = value.lower().partition("!")
+        words, name = said.split(), name.strip().lower()
+        if not words or words[0] in _ELSEWHERE or bool(sign) is not is_important:
             continue
         if name in (_TYPE, _DISPLAY):
             values[name] = words[0]
