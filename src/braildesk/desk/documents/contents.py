@@ -15,11 +15,12 @@ from collections.abc import (
     Mapping,
     Sequence,
 )
+from contextlib import suppress
 from dataclasses import dataclass, field
 from functools import partial
 from itertools import islice
 from pathlib import PurePosixPath
-from xml.etree.ElementTree import Element
+from xml.etree.ElementTree import Element, ParseError
 
 from braildesk.desk.documents import word_styles
 from braildesk.desk.documents.field_codes import shown_of_code
@@ -378,9 +379,7 @@ def _root(container: zipfile.ZipFile, name: str) -> Element:
 
 
 def _of_docx(container: zipfile.ZipFile, found: Contents) -> None:
-    named = _DOCX_STYLES in container.namelist()
-    styles = _root(container, _DOCX_STYLES) if named else Element("")
-    hidden = frozenset(word_styles.hiding(styles))
+    hidden = frozenset(word_styles.hiding(_styles(container)))
     for name in container.namelist():
         if _DOCX_TEXTS.fullmatch(name):
             root = _root(container, name)
@@ -401,6 +400,13 @@ def _of_docx(container: zipfile.ZipFile, found: Contents) -> None:
                 found.lose(LossKind.COMMENT, "\n".join(_paragraphs(comment)))
         elif _EMBEDDED.fullmatch(name):
             found.lose(LossKind.EMBEDDED, PurePosixPath(name).name)
+
+
+def _styles(container: zipfile.ZipFile) -> Element:
+    """The styles of a document; none if they can't be read, which keeps nobody from reading the rest."""
+    with suppress(KeyError, ParseError):
+        return _root(container, _DOCX_STYLES)
+    return Element("")
 
 
 def _set_aside(root: Element, hidden: Collection[str], found: Contents) -> None:
