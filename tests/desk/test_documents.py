@@ -2336,3 +2336,27 @@ def test_boxes_that_open_and_parts_to_search_are_paragraphs() -> None:
     assert found.texts == ["one", "two", "three", "four", "five"]
     assert found.missing == ()
     assert lost(found, LossKind.HIDDEN) == ["two"]
+
+
+def test_words_that_a_sheet_alone_emphasizes_or_raises_are_noted() -> None:
+    sheet = (
+        ".it { font-style: italic } .bold { font: bold 12px/1 serif } .up { vertical-align: super }"
+        " .low { vertical-align: sub } .caps { text-transform: uppercase } .sc { font-variant: small-caps }"
+        " .line, a { text-decoration: underline } h2 { font-style: italic; font-weight: 700 }"
+    )
+    body = (
+        "<p><span class=it>one</span> <span class='bold it'>two</span> 3<span class=up>4</span>"
+        " 5<span class=low>6</span> <cite class=caps>seven</cite> <span class=sc>eight</span>"
+        " <span style='font-style: italic'>nine</span> <span class=line>ten</span>"
+        " <span class=it style='font-style: normal'>eleven</span> <a href=x>twelve</a></p><p class=it>thirteen</p>"
+        " <h2>Fourteen</h2><p>fifteen<a href='#n'><span class=up>1</span></a>"
+        "<span class=up><a href='#n'>2</a></span> <i class=it>six</i><div id=n class=it></div>"
+    )
+    page = f"<html><head><style>{sheet}</style></head><body>{body}</body></html>"
+    found = read_document(page.encode(), ManuscriptKind.HTML)
+    by_sheet = [each for each in found.losses if each.words == each.around]
+    emphases = [e.words for e in by_sheet if e.what is LossKind.EMPHASIS]
+    assert emphases == "one two seven eight nine ten thirteen".split()
+    assert lost(found, LossKind.SUPERSCRIPT) == ["4"]
+    assert lost(found, LossKind.SUBSCRIPT) == ["6"]
+    assert found.missing == ()

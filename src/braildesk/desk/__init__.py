@@ -14,7 +14,7 @@ answered.
 Pages are laid out by ``layout``; ``page_places`` says what stands on which of them, ``volume_plan``
 where volumes should begin, and ``export`` and ``proof`` write them. A manuscript is read by
 ``manuscripts``: a text by ``manuscript``, a document by ``document`` of the package ``documents``
-(with ``kinds``, ``options``, ``markup``, ``pages``, ``quotations``, ``package``, ``sheets``,
+(with ``kinds``, ``options``, ``markup``, ``pages``, ``quotations``, ``package``, ``sheets``, ``page_emphasis``,
 ``numbers``, ``numbers_of_odt``, ``styles_of_odt``, ``tables_of_odt``, ``table_places``,
 ``word_print``, ``word_notes``, ``word_styles``, ``xml_writing``, ``rtf_fields``, ``rtf_groups``,
 ``rtf_words``, ``doc_text``, ``streams``, ``field_codes``, ``pandoc``, ``raw_html``, ``tree``, ``nodes``,

@@ -9,6 +9,6 @@ and `quotations` their marks, `markdown_notes` those of notes, and `markdown_fro
 alone for one; before LibreOffice does, `rtf_fields` and `doc_text` keep the results of fields, this
 by what `streams` finds. `tree` makes paragraphs of what pandoc gives, with the notes that `notes`
 and `ways_back` find, of which `nodes` has the words, and the tags that `raw_html` does, and
-`contents` has all words of the file, to be compared with them, as `rtf_words` and `doc_text` have,
+`contents` has all words of the file, with what `page_emphasis` finds, to be compared with them, as `rtf_words` and `doc_text` have,
 with what `field_codes` shows.
 """

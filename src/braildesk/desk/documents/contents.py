@@ -45,6 +45,7 @@ from braildesk.desk.documents.markup import (
 )
 from braildesk.desk.documents.notes import leads_back
 from braildesk.desk.documents.package import Package
+from braildesk.desk.documents.page_emphasis import Emphasized, PageEmphasis
 from braildesk.desk.documents.quotations import QUOTATION
 from braildesk.desk.documents.reading import Loss, LossKind, Missing, plain, whole
 from braildesk.desk.documents.sheets import (
@@ -53,6 +54,7 @@ from braildesk.desk.documents.sheets import (
     Sheet,
     Sheets,
     imports_of,
+    own_values,
     rules_of,
 )
 from braildesk.desk.manuscript import UnreadableText
@@ -175,6 +177,7 @@ class Contents:
             self.lose(LossKind.JOINED, words)
         for words in page.hidden:
             self.lose(LossKind.HIDDEN, words)
+        self.losses += page.emphasis.found
         for words in page.restyled:
             self.numbers.append(Loss(LossKind.LIST, words, words))
         self.note_numbers(page.counted)
@@ -724,6 +727,7 @@ class _Html(Tags):
         #: How many elements are open around each that stands on lines of its own by its style alone; and before which
         #: piece of which text such a one begins or ends.
         self._apart: list[int] = []
+        self.emphasis = PageEmphasis()
         self._seams: list[tuple[int, int]] = []
         #: The element that leads back from a note, and how many of its name are open in it.
         self._back, self._open = "", 0
@@ -868,8 +872,11 @@ class _Html(Tags):
     def _look_at(self, tag: str, attributes: Mapping[str, str | None]) -> None:
         """Notes of an element that it isn't shown, or stands on lines of its own by its style alone."""
         own = attributes.get("style") or ""
-        display = self._sheet.display_of(self._path, own)
+        shown = self._sheet.shown_of(self._path, own)
+        display = shown.get("display", "")
         text = len(self._texts) - 1
+        if shown:
+            self._note_emphasis(tag, attributes, shown)
         is_closed = tag == "dialog" and "open" not in attributes
         is_hidden = "hidden" in attributes or display == "none" or is_closed
         if self._unshown is None and is_hidden:
@@ -877,6 +884,18 @@ class _Html(Tags):
         elif display in _APART and tag not in BLOCKS | PARTED:
             self._apart.append(len(self._path) - 1)
             self._seams.append((text, len(self._texts[text])))
+
+    def _note_emphasis(
+        self, tag: str, attributes: Mapping[str, str | None], shown: Mapping[str, str]
+    ) -> None:
+        """Notes of an element how it is shown, whose text is the next one if it is a block."""
+        classes = (attributes.get("class") or "").split()
+        own = frozenset((*classes, *own_values(attributes.get("style") or "")))
+        is_in_link = tag == "a" or self._tags["a"] > 0
+        text = len(self._texts) - 1
+        place = (text + 1, 0) if tag in BLOCKS else (text, len(self._texts[text]))
+        element = Emphasized(tag, shown, own, is_in_link)
+        self.emphasis.begin(element, len(self._path) - 1, place)
 
     def _leave(self, tag: str) -> None:
         left = None if self._tags[tag] else tag
@@ -886,6 +905,7 @@ class _Html(Tags):
         while self._apart and len(self._path) <= self._apart[-1]:
             self._apart.pop()
             self._seams.append((len(self._texts) - 1, len(self._texts[-1])))
+        self.emphasis.end(len(self._path), self._texts, _SEAM)
         if self._unshown and len(self._path) <= self._unshown[0]:
             _, text, piece = self._unshown
             self._unshown = None

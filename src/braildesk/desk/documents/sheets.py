@@ -1,5 +1,5 @@
-"""What style sheets say of the marks of lists, of numbers that they count themselves, of what isn't shown, and of
-what stands on lines of its own, as far as a plain reader of them can tell.
+"""What style sheets say of the marks of lists, of numbers that they count themselves, of what isn't shown, of
+what stands on lines of its own, and of emphasis, as far as a plain reader of them can tell.
 
 Rules are known whose selectors name elements, classes and identifiers, within others or not, for all
 media or for print.
@@ -33,6 +33,22 @@ _DEEPEST = 8
 _INNERMOST = 512
 _TYPE, _DISPLAY = "list-style-type", "display"
 _PLACES = ("inside", "outside")
+#: What else is known of how words are shown, by the names for it, of which one says several things.
+_SHAPES = {
+    **{
+        name: name
+        for name in "font-style font-weight font-variant text-decoration text-transform vertical-align".split()
+    },
+    "font-variant-caps": "font-variant",
+    "text-decoration-line": "text-decoration",
+}
+_FONT = {
+    "italic": "font-style",
+    "oblique": "font-style",
+    "bold": "font-weight",
+    "small-caps": "font-variant",
+}
+_SHOWN = frozenset((_DISPLAY, *_SHAPES.values()))
 #: What stands in front of an element, and a number in it; rules say of the element that it is counted.
 _BEFORE = re.compile("::?before$", re.IGNORECASE)
 _CONTENT = re.compile(r"(?:^|[;\s])content\s*:([^;]*)", re.IGNORECASE)
@@ -114,6 +130,8 @@ class Sheet:
         self._rules: list[Rule] = []
         #: Those among them that say whether elements are counted, which are few.
         self._counting: list[Rule] = []
+        #: Those that say something of the marks of lists.
+        self._listing: list[Rule] = []
         #: Those that say how elements are shown, with their places, by what their last selectors name; and which of
         #: them may be for an element.
         self._showing: dict[str, list[tuple[int, Rule]]] = {}
@@ -126,9 +144,12 @@ class Sheet:
         self._rules += rules
         self._rules.sort(key=lambda rule: rule.weight)
         self._counting = [rule for rule in self._rules if _COUNTED in rule.values]
+        self._listing = [
+            rule for rule in self._rules if {_TYPE, _DISPLAY} & rule.values.keys()
+        ]
         self._showing = {}
         for placed in enumerate(self._rules):
-            if _DISPLAY in placed[1].values:
+            if not _SHOWN.isdisjoint(placed[1].values):
                 key = placed[1].selectors[-1].key
                 self._showing.setdefault(key, []).append(placed)
         self._found, self._shown = {}, {}
@@ -151,18 +172,18 @@ class Sheet:
         fit = [rule.values for rule in self._counting if rule.fits(inner)]
         return bool(fit and fit[-1][_COUNTED])
 
-    def display_of(self, path: Sequence[PageElement], own: str) -> str:
-        """How an element is shown, if that is said; ``path`` and ``own`` are as above."""
-        if said := _values(own, True).get(_DISPLAY):
-            return said
-        own_said = _values(own, False).get(_DISPLAY, "")
+    def shown_of(self, path: Sequence[PageElement], own: str) -> dict[str, str]:
+        """How an element is shown, as far as that is said; ``path`` and ``own`` are as above."""
         its = self._shown.get(path[-1])
         if its is None:
             its = self._shown[path[-1]] = self._for(path[-1])
         inner = path[-_INNERMOST:] if its else ()
-        graver = (rule for rule in reversed(its) if rule.is_important or not own_said)
-        fit = (rule.values[_DISPLAY] for rule in graver if rule.fits(inner))
-        return next(fit, own_said)
+        plain, important = own_values(own), _values(own, True)
+        for rule in reversed(its):
+            values = important if rule.is_important else plain
+            if not rule.values.keys() <= values.keys() and rule.fits(inner):
+                values.update({**rule.values, **values})
+        return plain | important
 
     def _for(self, element: PageElement) -> list[Rule]:
         """Those rules that say how an element is shown, wherever it stands."""
@@ -178,7 +199,7 @@ class Sheet:
         """What is said of an element, and what of that is important."""
         if path not in self._found:
             values: tuple[dict[str, str], ...] = ({}, {})
-            for rule in self._rules:
+            for rule in self._listing:
                 if rule.fits(path):
                     values[rule.is_important].update(rule.values)
             self._found[path] = values
@@ -237,7 +258,7 @@ def _beside(part: str, address: str) -> str:
 
 
 def rules_of(text: str) -> tuple[Rule, ...]:
-    """The rules of a style sheet that are known and say something of lists, or of what is shown."""
+    """The rules of a style sheet that are known and say something of lists, or of how words are shown."""
     return tuple(_rules(_COMMENT.sub(" ", text), 1))
 
 
@@ -309,6 +330,11 @@ def _counted(text: str) -> dict[str, str]:
     return {_COUNTED: "yes" * bool(_COUNTER.search(found[-1]))} if found else {}
 
 
+def own_values(text: str) -> dict[str, str]:
+    """What an element says of itself that isn't important."""
+    return _values(text, False)
+
+
 def _values(text: str, is_important: bool) -> dict[str, str]:
     """What declarations say of the marks of lists, and of what is shown: those that are important, or the others."""
     values: dict[str, str] = {}
@@ -320,6 +346,10 @@ def _values(text: str, is_important: bool) -> dict[str, str]:
             continue
         if name in (_TYPE, _DISPLAY):
             values[name] = words[0]
+        elif name in _SHAPES:
+            values[_SHAPES[name]] = " ".join(words)
+        elif name == "font":
+            values.update((_FONT[word], word) for word in words if word in _FONT)
         elif name == "list-style":
             types = [word for word in words if word not in _PLACES]
             values[_TYPE] = types[0] if types else "disc"

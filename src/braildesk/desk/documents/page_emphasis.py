@@ -1,0 +1,79 @@
+"""The words of a page that its style sheets alone emphasize, raise or lower, of which pandoc knows nothing."""
+
+import re
+from collections.abc import Iterator, Mapping, Sequence
+from dataclasses import dataclass
+
+from braildesk.desk.documents.markup import BLOCKS, PARTED
+from braildesk.desk.documents.reading import Loss, LossKind, plain
+
+#: What is emphasized by itself, or stands above or below the line, as pandoc knows.
+_KNOWN = frozenset("b del em i ins s strong strike sub sup u".split())
+#: Some small capitals that it knows: those of this element by this class, or by its own style.
+_SMALL, _SMALL_CLASS = "span", "smallcaps"
+_LINK, _PARAGRAPH = "a", "p"
+#: What declarations say of words that are emphasized.
+_EMPHASIZED = {
+    "font-style": re.compile("italic|oblique"),
+    "font-weight": re.compile("bold(er)?|[6-9]00"),
+    "font-variant": re.compile("small-caps"),
+    "text-decoration": re.compile("underline|line-through"),
+    "text-transform": re.compile("uppercase"),
+}
+_PLACES = {"super": LossKind.SUPERSCRIPT, "sub": LossKind.SUBSCRIPT}
+#: How many characters are shown of such words, and how many pieces are looked at for them.
+_SHOWN = 60
+
+
+@dataclass(frozen=True, slots=True)
+class Emphasized:
+    """An element of a page of which a sheet, or it itself, says how it is shown."""
+
+    tag: str
+    values: Mapping[str, str]
+    #: What it says itself, with its classes.
+    own: frozenset[str]
+    #: Whether it is a link or within one.
+    is_in_link: bool
+
+
+class PageEmphasis:
+    """What is found of such words while a page is read."""
+
+    def __init__(self) -> None:
+        self.found: list[Loss] = []
+        #: What is open: how many elements are around it, and its first text and piece.
+        self._open: list[tuple[int, LossKind, int, int]] = []
+
+    def begin(self, element: Emphasized, depth: int, place: tuple[int, int]) -> None:
+        """Notes an element within so many others that begins at a text and a piece of it."""
+        for what in dict.fromkeys(_lost(element)):
+            self._open.append((depth, what, *place))
+
+    def end(self, depth: int, texts: Sequence[Sequence[str]], seam: str) -> None:
+        """Notes that no more elements are open than so many; the seams of texts aren't shown."""
+        while self._open and depth <= self._open[-1][0]:
+            _, what, text, piece = self._open.pop()
+            pieces = texts[text][piece : piece + _SHOWN]
+            is_number = what is not LossKind.EMPHASIS and seam in pieces
+            words = plain("".join(pieces).replace(seam, "").replace("\n", " "))
+            if words and not is_number:
+                self.found.append(Loss(what, words[:_SHOWN], words[:_SHOWN]))
+
+
+def _lost(element: Emphasized) -> Iterator[LossKind]:
+    """What of an element is lost."""
+    tag, own, values = element.tag, element.own, element.values
+    is_within_line = tag not in BLOCKS | PARTED | _KNOWN
+    # of a link to a note the number is typed in brackets
+    place = _PLACES.get(values.get("vertical-align", ""))
+    if place and is_within_line and not element.is_in_link:
+        yield place
+    for name, emphasized in _EMPHASIZED.items():
+        is_usual = tag == _LINK and name == "text-decoration"
+        is_usual |= tag == _SMALL and name == "font-variant" and name in own
+        is_usual |= _SMALL_CLASS in own and name == "font-variant"
+        is_whole = tag == _PARAGRAPH and name == "font-style"
+        said = values.get(name, "").split()
+        if (is_within_line or is_whole) and not is_usual:
+            yield from [LossKind.EMPHASIS] * any(map(emphasized.fullmatch, said))
