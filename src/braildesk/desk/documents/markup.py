@@ -90,9 +90,8 @@ def field_words(tag: str, attributes: Mapping[str, str | None]) -> str:
     if tag != "input":
         return ""
     kind = (attributes.get("type") or "").lower()
-    names = ("value", "placeholder")
-    if kind in _WORDLESS:
-        names = {"password": ("placeholder",), "image": ("alt",)}.get(kind, ())
+    names = [] if kind in _WORDLESS else ["value", "placeholder"]
+    names += {"password": ["placeholder"], "image": ["alt"]}.get(kind, [])
     shown = ((attributes.get(name) or "").strip() for name in names)
     return next(filter(None, shown), "")
 
