@@ -2360,3 +2360,30 @@ def test_words_that_a_sheet_alone_emphasizes_or_raises_are_noted() -> None:
     assert lost(found, LossKind.SUPERSCRIPT) == ["4"]
     assert lost(found, LossKind.SUBSCRIPT) == ["6"]
     assert found.missing == ()
+
+
+@pytest.mark.parametrize(
+    "properties, plain",
+    [
+        ('fo:font-variant="small-caps"', 'fo:font-variant="normal"'),
+        ('fo:text-transform="uppercase"', 'fo:text-transform="none"'),
+        ('fo:background-color="#ffff00"', 'fo:background-color="transparent"'),
+        ('style:text-emphasize="dot above"', 'style:text-emphasize="none"'),
+        ('style:text-overline-style="solid"', 'style:text-overline-style="none"'),
+    ],
+)
+def test_words_in_odt_that_are_emphasized_in_other_ways_are_noted(
+    tmp_path: Path, properties: str, plain: str
+) -> None:
+    named = '<style:style style:name="{}" style:family="text"{}><style:text-properties {}/></style:style>'
+    based = ' style:parent-style-name="A"'
+    styles = named.format("A", "", properties)
+    automatic = named.format("B", based, "") + named.format("C", based, plain)
+    automatic += named.format("D", "", plain)
+    words = "".join(
+        f'<text:span text:style-name="{name}">{name}</text:span> ' for name in "ABCD"
+    )
+    path = odt(tmp_path / "a.odt", f"<text:p>{words}</text:p>", automatic, styles)
+    found = read_manuscript(path)
+    assert found.texts == ["A B C D"]
+    assert lost(found, LossKind.EMPHASIS) == ["A", "B"]

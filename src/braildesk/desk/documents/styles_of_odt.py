@@ -1,10 +1,10 @@
 """The styles of a text in ODT, with what they have of those that they are based on.
 
-pandoc finds emphasis that a style of words has itself, and looks no further; it knows none of styles that
-are based on each other, or on one that isn't there, and none of whole paragraphs.
+pandoc finds emphasis of some kinds that a style of words has itself, and looks no further; it knows none of
+styles that are based on each other, or on one that isn't there, and none of whole paragraphs.
 """
 
-from collections.abc import Iterator
+from collections.abc import Iterator, Mapping
 from copy import deepcopy
 from itertools import islice
 from xml.etree import ElementTree
@@ -28,6 +28,15 @@ _EMPHASIS = (
     *(f"{_STYLE}text-{name}" for name in ("position", "underline-style")),
     *(f"{_STYLE}text-line-through-{name}" for name in ("style", "type")),
 )
+#: Emphasis of which pandoc knows nothing, with the values that are none, and the line below words that it knows.
+_OTHER = {
+    f"{_FO}font-variant": ("normal",),
+    f"{_FO}text-transform": ("none", "lowercase", "capitalize"),
+    f"{_FO}background-color": ("transparent", "#ffffff"),
+    f"{_STYLE}text-emphasize": ("none",),
+    f"{_STYLE}text-overline-style": ("none",),
+}
+_LINE = f"{_STYLE}text-underline-style"
 
 
 def italics(root: Element, *others: Element) -> Iterator[Loss]:
@@ -61,11 +70,14 @@ class Styles:
         self._known: dict[int, dict[str, str]] = {}
 
     def written(self, root: Element) -> dict[int, str]:
-        """What stands in place of each style of a part that is based on another, by its identity."""
+        """What stands in place of each style of a part that is based on another, or has emphasis of other kinds,
+        by its identity.
+        """
         return {
             id(style): _written(style, self._whole(style))
             for style in root.iter(f"{_STYLE}style")
-            if style.get(f"{_STYLE}family") == self._family and _PARENT in style.attrib
+            if style.get(f"{_STYLE}family") == self._family
+            and (_PARENT in style.attrib or _is_otherwise(_emphasis(style)))
         }
 
     def emphasis(self, name: str) -> dict[str, str]:
@@ -95,16 +107,26 @@ class Styles:
 def _emphasis(style: Element) -> dict[str, str]:
     properties = style.find(_PROPERTIES)
     own = {} if properties is None else properties.attrib
-    return {name: own[name] for name in _EMPHASIS if name in own}
+    return {name: own[name] for name in (*_EMPHASIS, *_OTHER) if name in own}
+
+
+def _is_otherwise(emphasis: Mapping[str, str]) -> bool:
+    """Whether there is emphasis of which pandoc knows nothing."""
+    return any(
+        emphasis.get(name, values[0]).lower() not in values
+        for name, values in _OTHER.items()
+    )
 
 
 def _written(style: Element, emphasis: dict[str, str]) -> str:
     """A style with some emphasis, based on none, as XML that stands anywhere."""
     made = deepcopy(style)
     made.tail = None
-    del made.attrib[_PARENT]
+    made.attrib.pop(_PARENT, None)
     properties = made.find(_PROPERTIES)
     if properties is None:
         properties = SubElement(made, _PROPERTIES)
     properties.attrib.update(emphasis)
+    if _is_otherwise(emphasis):
+        properties.set(_LINE, "solid")
     return ElementTree.tostring(made, encoding="unicode")
