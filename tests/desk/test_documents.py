@@ -885,7 +885,7 @@ def test_a_picture_with_a_caption_has_its_description_too() -> None:
 
 
 def test_no_word_is_said_to_be_missing_since_it_is_parted_by_tags() -> None:
-    names = "acronym strike nobr label dialog my-own marquee meter slot rt".split()
+    names = "acronym strike nobr label time my-own marquee meter slot rt".split()
     inner = " ".join(f"<{name}>the</{name}>moon" for name in names)
     page = f'<html><p>{inner} a<img src="a.png" alt="old">moon</p></html>'
     found = read_document(page.encode(), ManuscriptKind.HTML)
