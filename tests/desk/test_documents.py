@@ -2387,3 +2387,21 @@ def test_words_in_odt_that_are_emphasized_in_other_ways_are_noted(
     found = read_manuscript(path)
     assert found.texts == ["A B C D"]
     assert lost(found, LossKind.EMPHASIS) == ["A", "B"]
+
+
+def test_words_in_odt_that_a_style_hides_are_noted_unless_they_are_shown_again(
+    tmp_path: Path,
+) -> None:
+    named = '<style:style style:name="{}" style:family="text"{}><style:text-properties {}/></style:style>'
+    based = ' style:parent-style-name="{}"'
+    styles = named.format("A", "", 'text:display="none"')
+    automatic = named.format("B", based.format("A"), "")
+    automatic += named.format("C", based.format("A"), 'text:display="true"')
+    automatic += named.format("D", based.format("D"), "")
+    words = "".join(
+        f'<text:span text:style-name="{name}">{name}</text:span> ' for name in "ABCD"
+    )
+    path = odt(tmp_path / "a.odt", f"<text:p>{words}</text:p>", automatic, styles)
+    found = read_manuscript(path)
+    assert found.texts == ["A B C D"]
+    assert lost(found, LossKind.HIDDEN) == ["A", "B"]

@@ -22,7 +22,7 @@ from itertools import islice
 from pathlib import PurePosixPath
 from xml.etree.ElementTree import Element, ParseError
 
-from braildesk.desk.documents import word_styles
+from braildesk.desk.documents import styles_of_odt, word_styles
 from braildesk.desk.documents.field_codes import shown_of_code
 from braildesk.desk.documents.kinds import (
     ManuscriptKind,
@@ -108,7 +108,6 @@ _PARTING = ("tab", "ptab", "br", "cr", "footnoteReference", "endnoteReference")
 _FALLBACK = "{http://schemas.openxmlformats.org/markup-compatibility/2006}Fallback"
 _TEXT = "{urn:oasis:names:tc:opendocument:xmlns:text:1.0}"
 _OFFICE = "{urn:oasis:names:tc:opendocument:xmlns:office:1.0}"
-_STYLE = "{urn:oasis:names:tc:opendocument:xmlns:style:1.0}"
 _SVG = "{urn:oasis:names:tc:opendocument:xmlns:svg-compatible:1.0}"
 _DOCX_TEXTS = re.compile(r"word/(document|footnotes|endnotes)\d*\.xml")
 _DOCX_EDGES = re.compile(r"word/(header|footer)\d*\.xml")
@@ -545,16 +544,12 @@ def _of_odt(container: zipfile.ZipFile, found: Contents) -> None:
         found.lose(
             LossKind.COMMENT, "\n".join(_odt_paragraphs(annotation, is_whole=True))
         )
-    hidden = {
-        style.get(f"{_STYLE}name")
-        for style in root.iter(f"{_STYLE}style")
-        if any(each.get(f"{_TEXT}display") == "none" for each in style)
-    }
+    styles = _root(container, "styles.xml") if "styles.xml" in names else Element("")
+    hidden = frozenset(styles_of_odt.hiding(styles, root))
     for tag in ("span", "p", "h"):
         for each in root.iter(f"{_TEXT}{tag}"):
             if each.get(f"{_TEXT}style-name") in hidden:
                 found.lose(LossKind.HIDDEN, "".join(_odt_runs(each, [])))
-    styles = _root(container, "styles.xml") if "styles.xml" in names else Element("")
     for edges in styles.iter(f"{_OFFICE}master-styles"):
         for passage in _odt_paragraphs(edges):
             found.add_edge(passage)

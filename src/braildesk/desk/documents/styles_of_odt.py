@@ -19,10 +19,13 @@ _OFFICE = "{urn:oasis:names:tc:opendocument:xmlns:office:1.0}"
 #: What isn't typed.
 _GONE = (f"{_TEXT}tracked-changes", f"{_OFFICE}annotation")
 _PARENT, _PROPERTIES = f"{_STYLE}parent-style-name", f"{_STYLE}text-properties"
+_DISPLAY = f"{_TEXT}display"
+#: How many styles are looked at of those that one is based on, for what they hide.
+_DEEPEST = 50
 _SLOPE, _ITALIC = f"{_FO}font-style", ("italic", "oblique")
 #: How many characters are shown of a paragraph, and how many of its texts are looked at for them.
 _SHOWN, _FRONT = 60, 1_000
-#: What words that are emphasized, or stand above or below the line, have by their style.
+#: What words that are emphasized, or stand above or below the line, have by their style; others may be hidden.
 _EMPHASIS = (
     *(f"{_FO}{name}" for name in ("font-style", "font-weight", "font-variant")),
     *(f"{_STYLE}text-{name}" for name in ("position", "underline-style")),
@@ -53,6 +56,25 @@ def italics(root: Element, *others: Element) -> Iterator[Loss]:
         front = islice((each[:_FRONT] for each in paragraph.itertext()), _FRONT)
         if words := plain("".join(front).replace("\n", " "))[:_SHOWN]:
             yield Loss(LossKind.EMPHASIS, words, words)
+
+
+def hiding(*roots: Element) -> Iterator[str]:
+    """The names of the styles of some parts that hide text, themselves or by one that they are based on."""
+    known = {
+        style.get(f"{_STYLE}name", ""): style
+        for root in roots
+        for style in root.iter(f"{_STYLE}style")
+    }
+    for name in known:
+        base = name
+        for _ in range(_DEEPEST):
+            if base not in known:
+                break
+            said = [each.get(_DISPLAY) for each in known[base] if each.get(_DISPLAY)]
+            if said:
+                yield from [name] if "none" in said else ()
+                break
+            base = known[base].get(_PARENT, "")
 
 
 class Styles:
@@ -107,7 +129,8 @@ class Styles:
 def _emphasis(style: Element) -> dict[str, str]:
     properties = style.find(_PROPERTIES)
     own = {} if properties is None else properties.attrib
-    return {name: own[name] for name in (*_EMPHASIS, *_OTHER) if name in own}
+    names = (*_EMPHASIS, *_OTHER, _DISPLAY)
+    return {name: own[name] for name in names if name in own}
 
 
 def _is_otherwise(emphasis: Mapping[str, str]) -> bool:
