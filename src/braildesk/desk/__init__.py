@@ -14,19 +14,19 @@ answered.
 Pages are laid out by ``layout``; ``page_places`` says what stands on which of them, ``volume_plan``
 where volumes should begin, and ``export`` and ``proof`` write them. A manuscript is read by
 ``manuscripts``: a text by ``manuscript``, a document by ``document`` of the package ``documents``
-(with ``kinds``, ``options``, ``markup``, ``pages``, ``quotations``, ``package``, ``sheets``, ``page_emphasis``,
-``numbers``, ``numbers_of_odt``, ``styles_of_odt``, ``tables_of_odt``, ``table_places``,
-``word_print``, ``word_notes``, ``word_styles``, ``xml_writing``, ``rtf_fields``, ``rtf_groups``,
-``rtf_words``, ``doc_text``, ``streams``, ``field_codes``, ``pandoc``, ``raw_html``, ``tree``, ``nodes``,
-``notes``, ``ways_back``, ``markdown_front``, ``markdown_notes``, ``markdown_tables``,
-``markdown_words``, ``contents`` and ``reading``), with ``replacements`` for characters that no
-table has. ``validation`` and ``text_faults`` say what keeps it from being typed, ``intake`` and
-``typist`` type it, ``import_text`` is the whole, and ``import_note``, ``origin``, ``unfinished``
-and ``earlier`` are about imports that were cut short or made before. ``compare`` finds the words in
-which a book differs from a manuscript, and ``contracted`` has what a table is made with for one.
-What a person typed is a ``draft``; ``drafts`` keeps them, as ``record``s in an ``own_folder``, by
-the ``identity`` of the book's file, ``kept_lines`` says which lines of one wait, and finds those
-that a book has by now, and ``whole_file`` writes any file whole or not at all.
+(with ``kinds``, ``options``, ``markup``, ``pages``, ``quotations``, ``package``, ``sheets``,
+``page_emphasis``, ``numbers``, ``numbers_of_odt``, ``styles_of_odt``, ``tables_of_odt``,
+``table_places``, ``word_print``, ``word_notes``, ``word_styles``, ``xml_writing``, ``rtf_fields``,
+``rtf_groups``, ``rtf_words``, ``doc_text``, ``streams``, ``field_codes``, ``pandoc``, ``raw_html``,
+``tree``, ``nodes``, ``notes``, ``ways_back``, ``markdown_front``, ``markdown_notes``,
+``markdown_tables``, ``markdown_words``, ``contents`` and ``reading``), with ``replacements`` for
+characters that no table has. ``validation`` and ``text_faults`` say what keeps it from being typed,
+``intake`` and ``typist`` type it, ``import_text`` is the whole, and ``import_note``, ``origin``,
+``unfinished`` and ``earlier`` are about imports that were cut short or made before. ``compare``
+finds the words in which a book differs from a manuscript, and ``contracted`` has what a table is
+made with for one. What a person typed is a ``draft``; ``drafts`` keeps them, as ``record``s in an
+``own_folder``, by the ``identity`` of the book's file, ``kept_lines`` says which lines of one wait,
+and finds those that a book has by now, and ``whole_file`` writes any file whole or not at all.
 """
 
 #: How many seconds a book is waited for that another program has open, if nothing else is said.

@@ -25,7 +25,7 @@ _DEEPEST = 50
 _SLOPE, _ITALIC = f"{_FO}font-style", ("italic", "oblique")
 #: How many characters are shown of a paragraph, and how many of its texts are looked at for them.
 _SHOWN, _FRONT = 60, 1_000
-#: What words that are emphasized, or stand above or below the line, have by their style; others may be hidden.
+#: What words that are emphasized, or stand above or below the line, have by their style.
 _EMPHASIS = (
     *(f"{_FO}{name}" for name in ("font-style", "font-weight", "font-variant")),
     *(f"{_STYLE}text-{name}" for name in ("position", "underline-style")),
