@@ -768,6 +768,26 @@ def test_what_was_typed_is_offered_in_the_file_in_which_a_book_was_saved_that_is
     assert prints(again)[1] == "Es war"
 
 
+def test_what_is_typed_once_a_book_is_gone_is_brought_back_where_all_of_it_was_saved(
+    moon: Path, sit: Sit
+) -> None:
+    sat = sit(moon)
+    sat.press("o")
+    sat.write("Es war")
+    saved = gone(moon, is_moved=False)
+    sat.press("enter")
+    assert sat.state.is_lost
+    sat.state = sat.desk.paste(sat.state, " einmal ein Mond", True)
+    assert sat.state.message == (
+        "No key of that text was obeyed. Once the book is open again, U brings it back, for a new"
+        " paragraph."
+    )
+    again = sit(saved)
+    again.press("U")
+    asked = again.state.question
+    assert asked and "was set aside: “einmal ein Mond”." in asked.sentence
+
+
 @pytest.mark.parametrize("is_moved", [True, False])
 def test_lines_that_a_book_lacks_that_is_gone_are_offered_where_it_is(
     moon: Path, sit: Sit, is_moved: bool

@@ -165,6 +165,8 @@ class Desk:
         self._stopped_by: signal.Signals | None = None
         #: The volumes that were laid out.
         self._layouts = pagelook.Layouts()
+        #: Where all of a book that is gone was saved.
+        self._saved: Path | None = None
         self._open(self._wait)
 
     @property
@@ -326,6 +328,7 @@ class Desk:
             return not_kept(fault)
         if before != (self._unsent.waiting, self._unsent.cut):
             self._fault = ""
+            self._copy_kept()
         return ""
 
     def away(self, state: State, report: Callable[[str], None]) -> State:
@@ -576,6 +579,7 @@ class Desk:
         try:
             self._session.close()
             self._open_further()
+            self._saved = None
             found = replace(without_typed(state), question=None, pages=None)
             found = self._opened_again(replace(found, is_lost=False))
             is_same = found.version == state.version
@@ -670,7 +674,13 @@ class Desk:
     def _follow(self, lost: Displaced) -> None:
         """Has what isn't in the book be offered where all of the book was saved."""
         if lost.saved is not None:
-            self.drafts.copy_to(Path(lost.saved))
+            self._saved = Path(lost.saved)
+            self._copy_kept()
+
+    def _copy_kept(self) -> None:
+        """Has what is kept by now be found where all of a book that is gone was saved, too."""
+        if self._saved is not None:
+            self.drafts.copy_to(self._saved)
 
     def _ended(self, state: State, *sentences: str, is_saved: bool = False) -> State:
         """What the screen says if the session ended and the book could not be opened again."""
@@ -853,7 +863,9 @@ class Desk:
             case TakeBack():
                 return self._taking_back(state, action)
             case GiveUp() | PutOff() | BringBack() | PutBy():
-                return with_text(self._session, self._unsent, state, action)
+                state = with_text(self._session, self._unsent, state, action)
+                self._copy_kept()
+                return state
             case OpenAgain():
                 said = _OPEN_INSTEAD if state.is_displaced else _OPEN_AGAIN
                 return self._opened_anew(state, said)

@@ -35,6 +35,10 @@ _PASTED = (
     " paragraph."
 )
 
+_ONCE_OPEN = (
+    "No key of that text was obeyed. Once the book is open again, U brings it back, for a new"
+    " paragraph."
+)
 _KEPT = "They are kept as a text, which U brings back."
 _BACK_LATER = "Once nothing is asked or typed any more, U brings it back."
 
@@ -96,9 +100,14 @@ def _brought_back(session: Session, unsent: Unsent, state: State, place: int) ->
 def _put_by(unsent: Unsent, state: State, action: PutBy) -> State:
     """Keeps a text that was pasted where nothing is typed, so that it can be typed."""
     draft = draft_of_pasted(state, action.text)
-    said = f"{not_obeyed(draft.joined)} {_KEPT}" if action.is_last else _PASTED
-    if state.question is not None and state.question.is_offer and not action.is_last:
+    if action.is_last:
+        said = f"{not_obeyed(draft.joined)} {_KEPT}"
+    elif state.is_lost:
+        said = _ONCE_OPEN
+    elif state.question is not None and state.question.is_offer:
         said = f"{typed_at_offer(draft.joined)} {_BACK_LATER}"
+    else:
+        said = _PASTED
     return state.saying(f"{said} {unsent.put_by(draft)}".rstrip())
 
 
