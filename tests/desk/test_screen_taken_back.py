@@ -370,6 +370,65 @@ def test_what_was_taken_back_as_the_session_ended_is_not_taken_back_twice(
     assert sat.state.openings[1].words == "The moon is far away."
 
 
+@pytest.mark.parametrize(
+    "keys, said",
+    [
+        ("s", "Taken back: paragraph 1 was struck."),
+        ("n r", "Taken back: mark 1 was resolved. It stays resolved,"),
+        ("n m x enter", "Taken back: mark 2 was put. The book keeps it, resolved."),
+        ("o x enter escape", "Taken back: paragraph 4 was typed. The book keeps it,"),
+    ],
+)
+def test_what_is_in_the_book_though_its_session_ended_is_taken_back(
+    moon: Path, sit: Sit, monkeypatch: pytest.MonkeyPatch, keys: str, said: str
+) -> None:
+    with monkeypatch.context() as patched:
+        for name, value in standing_in(2, KEPT, KILL_PROGRAM).items():
+            patched.setenv(name, value)
+        sat = sit(moon)
+    sat.press("b", *keys.split())
+    assert (len(sat.state.deeds), sat.state.version) == (2, 9)
+    sat.press("u")
+    assert sat.state.message.startswith(said)
+    sat.press("u")
+    assert sat.state.message.startswith("Taken back: paragraph 1 was made a heading.")
+
+
+@pytest.mark.parametrize("keys", ["s", "n r", "n m x enter"])
+def test_what_was_taken_back_and_not_answered_is_not_taken_back_twice(
+    moon: Path, sit: Sit, monkeypatch: pytest.MonkeyPatch, keys: str
+) -> None:
+    with monkeypatch.context() as patched:
+        for name, value in standing_in(3, KEPT, KILL_PROGRAM).items():
+            patched.setenv(name, value)
+        sat = sit(moon)
+    sat.press("b", *keys.split(), "u")
+    assert sat.state.message.startswith("The session was ended by signal 9.")
+    assert (len(sat.state.deeds), sat.state.version) == (1, 10)
+    sat.press("u")
+    assert sat.state.message.startswith("Taken back: paragraph 1 was made a heading.")
+
+
+def test_what_a_lost_session_did_of_many_changes_is_not_taken_back_twice(
+    moon: Path, sit: Sit, monkeypatch: pytest.MonkeyPatch
+) -> None:
+    # the second of three paragraphs is struck as the session ends
+    with monkeypatch.context() as patched:
+        for name, value in standing_in(5, KEPT, KILL_PROGRAM).items():
+            patched.setenv(name, value)
+        sat = sit(moon)
+    sat.press("o")
+    paste(sat, "One.\nTwo.\nThree.")
+    sat.press("y", "escape", "u", "y")
+    sat.state = sat.desk.away(sat.state, print)
+    assert [each.struck for each in sat.state.book[1:4]] == [False, True, True]
+    sat.press("u")
+    assert sat.state.message == (
+        "Taken back: 3 paragraphs were typed, 4 to 6. The book keeps them, struck."
+    )
+    assert [each.struck for each in sat.state.book[1:4]] == [True, True, True]
+
+
 def test_a_refusal_leaves_what_can_be_taken_back(
     moon: Path, sit: Sit, monkeypatch: pytest.MonkeyPatch
 ) -> None:

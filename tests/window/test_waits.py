@@ -4,13 +4,14 @@ import os
 import signal
 from collections.abc import Callable, Iterator, Sequence
 from contextlib import AbstractContextManager, contextmanager
+from functools import partial
 from pathlib import Path
 
 import pytest
 from PyQt6.QtCore import QTimer
 from PyQt6.QtWidgets import QApplication, QInputDialog, QLineEdit
 
-from braildesk import Paragraph, Session, requests
+from braildesk import Paragraph, Session, Style, requests
 from braildesk.desk.draft import Aim, Draft
 from braildesk.desk.drafts import Drafts
 from braildesk.desk.layout import PageSize
@@ -353,7 +354,7 @@ def test_words_whose_change_was_cut_short_are_taken_back_and_no_earlier_change_i
     "far, said, text",
     [
         # nobody answered that the last one was kept
-        ("kept", "There is nothing that Ctrl+Z", "So, The mon is fer ewey."),
+        ("kept", "Taken back: paragraph 2 was", "So, The mon is fer eway."),
         ("answered", "Taken back: “a” was replaced in 3", "So, The mon is far away."),
     ],
 )
@@ -370,6 +371,70 @@ def test_where_words_that_were_changed_are_not_all_seen_no_earlier_change_is_tak
         desk.act("take_back")
         assert desk.window.message.text.startswith(said)
         assert prints_of(desk)[1] == text
+
+
+@pytest.mark.parametrize("is_resolved", [False, True])
+def test_what_is_in_the_book_though_its_session_ended_is_taken_back(
+    opened: Opened, is_resolved: bool
+) -> None:
+    with opened("2 kept") as desk:
+        desk.do(requests.Style(2, Style.HEADING))
+        if is_resolved:
+            desk.choose(1, 5)
+            desk.act("resolve")
+        else:
+            desk.acting(partial(desk.do, requests.Strike(2)))
+        assert desk.window.message.text.startswith("The session was ended by signal 9.")
+        desk.act("take_back")
+        said = "mark 1 was resolved" if is_resolved else "paragraph 2 was struck"
+        assert desk.window.message.text.startswith(f"Taken back: {said}.")
+        desk.act("take_back")
+        assert desk.window.message.text == "Taken back: paragraph 2 was made a heading."
+
+
+def test_what_was_taken_back_and_not_answered_is_not_taken_back_twice(
+    opened: Opened,
+) -> None:
+    with opened("3 kept") as desk:
+        desk.do(requests.Style(2, Style.HEADING))
+        desk.do(requests.Strike(2))
+        desk.act("take_back")
+        assert desk.window.message.text.startswith("The session was ended by signal 9.")
+        assert not desk.contents.paragraphs[1].struck
+        desk.act("take_back")
+        assert desk.window.message.text == "Taken back: paragraph 2 was made a heading."
+
+
+@pytest.mark.parametrize("moment", ["", "5 kept"])
+def test_what_is_left_of_much_that_is_taken_back_is_asked_about(
+    opened: Opened, given: Answers, moment: str
+) -> None:
+    stops = [] if moment else [0, 1]
+    given["choices"] = [0, 0]
+
+    def report(done: int, count: int) -> None:
+        if stops and stops.pop(0):
+            raise KeyboardInterrupt
+
+    with opened(moment) as desk:
+        commands = [partial(_typed, text) for text in ("One.", "Two.", "Three.")]
+        desk.asked(partial(desk.book.typed_all, commands, lambda *_: None))
+        with desk.failures():
+            desk.asked(partial(desk.book.taken_back, report))
+        desk.act("take_back")
+        if moment:
+            # one that is left isn't asked about
+            assert given["said"] == []
+        else:
+            assert given["said"] == [
+                "This was done last: 3 paragraphs were typed, 4 to 6. 1 of its 3 changes is taken"
+                " back. Shall the rest be taken back?"
+            ]
+        assert [each.struck for each in desk.contents.paragraphs[3:]] == [True] * 3
+
+
+def _typed(text: str, newest: int | None) -> requests.Type:
+    return requests.Type("end", "en", text)
 
 
 @pytest.mark.parametrize("moment", ["3 read", ""])

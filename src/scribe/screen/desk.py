@@ -105,7 +105,7 @@ from scribe.screen.state import (
 )
 from scribe.screen.waiting import asked_about, unkept, where_kept, with_text
 from scribe.words import deeds, pagelook
-from scribe.words.aftermath import found_again
+from scribe.words.aftermath import deed_found, found_again, kept_alone
 from scribe.words.change_all import STAY
 from scribe.words.changes import not_given
 from scribe.words.deeds import Deed, kept
@@ -498,13 +498,16 @@ class Desk:
             if isinstance(interrupted.cause, Interrupted):
                 # the book is asked for nothing more, and nothing is drawn
                 return interrupted.state
-            state = self._after_failure(interrupted.state, interrupted.cause, True)
+            state, cause = interrupted.state, interrupted.cause
+            found = self._after_failure(state, cause, True)
+            state = self._with_deed_found(found, state, cause, step.asked)
             if _is_gone_on_from(step.asked):
                 state = self._begun_where_typed(state)
         except Stop as stop:
             state = state.saying(stop.sentence)
         except (Lost, Refused) as failed:
-            state = self._after_failure(state, failed)
+            found = self._after_failure(state, failed)
+            state = self._with_deed_found(found, state, failed, step.asked)
         if not (state.is_lost or state.is_over or state.away):
             state = self._drawn(state)
         return state if state.typed else self.save_draft(state)
@@ -635,6 +638,34 @@ class Desk:
             return self._ended(state, lost.sentence, failed.reason)
         except OSError as failure:
             return self._ended(state, lost.sentence, of_system(failure))
+
+    def _with_deed_found(
+        self,
+        state: State,
+        before: State,
+        cause: Lost | Refused,
+        asked: Command[Any] | Action | None,
+    ) -> State:
+        """The state in which u takes back what a command did that a lost session did not answer.
+
+        If that took something back itself, it takes back what was done before.
+        """
+        if state.is_lost or not isinstance(cause, Lost):
+            return state
+        try:
+            command = kept_alone(self._session, cause)
+            if command is None:
+                return state
+            done = self._resolving(before, command)
+            done = done or deed_found(self._session, command, before.book)
+        except Lost as lost:
+            return self._after_loss(state, lost)
+        if isinstance(asked, TakeBack):
+            *earlier, deed = before.deeds
+            left = deeds.without(deed, earlier, done or deed)
+        else:
+            left = (*before.deeds, *([done] if done else ()))
+        return replace(state, deeds=left)
 
     def _looked_at_anew(self, state: State) -> State:
         """The state without the lines that were looked at, or with places as they are by now."""
@@ -796,7 +827,10 @@ class Desk:
                 report(f"{done:,} of {count:,} done.")
         except Lost as lost:
             self._note_back(state, 0)
-            return self._after_loss(so_far(state, done), lost, begun)
+            found = self._after_loss(so_far(state, done), lost, begun)
+            if found.is_lost or kept_alone(self._session, lost) is None:
+                return found
+            return replace(found, deeds=so_far(state, done + 1).deeds)
         except Refused as refused:
             said = f"{done:,} of {count:,} done. {refused.reason}"
         except Interrupted:

@@ -11,7 +11,7 @@ from typing import Any
 from braildesk import Displaced, Lost, Paragraph, Refused, Session, requests
 from braildesk.desk import search
 from braildesk.desk.change import Change, change_place
-from braildesk.desk.change_all import NotChanged, Passed, Proposal
+from braildesk.desk.change_all import NotChanged, Passed, Proposal, Replacement
 from braildesk.desk.changed_so_far import Further
 from braildesk.desk.correction import smallest_correction, with_typed
 from braildesk.desk.draft import Aim, Draft
@@ -34,7 +34,7 @@ from braildesk.text.sequences import composed
 from braildesk.text.spans import Span
 
 from scribe.words import deeds, pagelook
-from scribe.words.aftermath import opened_again
+from scribe.words.aftermath import deed_found, kept_alone, opened_again
 from scribe.words.change_all import REST_STAYS, Count
 from scribe.words.deeds import Deed, kept
 from scribe.words.drafts import as_paragraphs, not_kept
@@ -125,6 +125,9 @@ class OpenBook:
         self._session: Session
         self._was_open = False
         self._deeds: tuple[Deed, ...] = ()
+        # what was last sent takes back the last deed, or resolves a mark
+        self._is_taking_back = False
+        self._resolving: Deed | None = None
         # the paragraphs as they were listed last: a long book takes a while to list
         self._known: tuple[Paragraph, ...] = ()
         self._laid: pagelook.VolumeLines | None = None
@@ -180,11 +183,31 @@ class OpenBook:
         session, said = opened_again(self.path, lost, begun=begun, while_waiting=look)
         if session is None:
             return None, said
-        before = lost.version
+        known = self._known
         found = self._with(session)
-        if found.version != before:
-            self._deeds = ()
+        if found.version != lost.version:
+            self._deeds = self._deeds_found(lost, known)
+        self._is_taking_back = False
         return found, said
+
+    def _deeds_found(self, lost: Lost, before: Sequence[Paragraph]) -> tuple[Deed, ...]:
+        """The deeds with that of the one command that was not answered and is in the book.
+
+        There are none if others changed it.
+        """
+        command = kept_alone(self._session, lost)
+        if command is None:
+            return ()
+        done = self._resolving if isinstance(command, requests.Resolve) else None
+        if not self._is_taking_back:
+            done = done or deed_found(self._session, command, before)
+            return (*self._deeds, done) if done else self._deeds
+        *earlier, deed = self._deeds
+        if len(deed.back) > 1:
+            rest = replace(deed, back=deed.back[1:], taken=deed.taken + 1)
+            return (*earlier, rest)
+        done = deed_found(self._session, command, before)
+        return deeds.without(deed, earlier, done or deed)
 
     def close(self) -> None:
         """Ends the session; what was kept is in the book."""
@@ -424,17 +447,20 @@ class OpenBook:
             # as above, of the last one
             is_more = session.last_version > begun + len(backs)
             its = [requests.Undo(number) for number in last if is_more]
-            self._note_changed(before, further.wanted.old, [*its, *backs])
+            self._note_changed(before, further.wanted, [*its, *backs])
         return [*count.sentences(session.last_version), *said], lines
 
     def _note_changed(
-        self, before: tuple[Deed, ...], old: str, backs: Sequence[Command[Any]]
+        self,
+        before: tuple[Deed, ...],
+        wanted: Replacement,
+        backs: Sequence[Command[Any]],
     ) -> None:
         """Has words that were changed be taken back together with those changed since then."""
         since = reversed(self._deeds[len(before) :])
         backs = (*backs, *(command for each in since for command in each.back))
         if backs:
-            what = f"{quoted(old)} was replaced in {counted(len(backs), 'place')}"
+            what = f"{quoted(wanted.old)} was replaced in {counted(len(backs), 'place')}"
             self._deeds = (*before, Deed(what, backs))
 
     def taken_back(self, report: Callable[[int, int], None]) -> Done:
@@ -453,17 +479,19 @@ class OpenBook:
             self._deeds = tuple(earlier)
             said = f"{deed.what[:1].upper()}{deed.what[1:]}, which stays."
             return Done(self.contents(), said, None)
+        self._is_taking_back = True
         for done, command in enumerate(deed.back):
             try:
                 report(done, len(deed.back))
                 answer = self._ask(command)
             except (Refused, KeyboardInterrupt, Lost) as stopped:
-                rest = replace(deed, back=deed.back[done:])
+                rest = replace(deed, back=deed.back[done:], taken=deed.taken + done)
                 self._deeds = (*earlier, rest)
+                self._is_taking_back = isinstance(stopped, Lost)
                 if len(deed.back) == 1 or isinstance(stopped, Lost):
                     raise
                 raise NotAll(done, stopped) from stopped
-        self._deeds = tuple(earlier)
+        self._deeds, self._is_taking_back = tuple(earlier), False
         if deed.mark is not None:
             # it has another number now, by which it was resolved before
             again = deeds.deed_of(command, answer, ())
@@ -661,6 +689,7 @@ class OpenBook:
         if isinstance(command, requests.OfParagraph):
             if not any(each.id == command.paragraph for each in before):
                 before = self.contents().paragraphs
+        self._is_taking_back, self._resolving = False, deed
         answer = self._ask(command)
         if isinstance(command, requests.Undo):
             self._deeds = deeds.undone(self._deeds, command)

@@ -101,6 +101,8 @@ class Typed:
         if deed is None or len(deed.back) < 2:
             return True
         asked = f"The last action did this: {deed.what}. Shall all of it be taken back?"
+        if deed.taken:
+            asked = deed.question
         answer = dialogs.choice(desk.window, "Take back", asked, ("&Yes", "&No"))
         if answer:
             desk.say("Nothing was taken back.")

@@ -1,13 +1,16 @@
 """What became of a command that was not answered, in words, once the book is opened again."""
 
-from collections.abc import Callable
+from collections.abc import Callable, Sequence
 from pathlib import Path
+from typing import Any
 
-from braildesk import DeskError, Displaced, Lost, Session
+from braildesk import DeskError, Displaced, Lost, Paragraph, Session, requests
 from braildesk.desk import aftermath
 from braildesk.desk.aftermath import FoundAgain
+from braildesk.protocol.requests import Command
 
 from scribe.words.console import Console
+from scribe.words.deeds import Deed, deed_of
 from scribe.words.paragraph import counted
 
 
@@ -44,6 +47,28 @@ def opened_again(
         return None, [lost.sentence, why]
     words = found_again if shown == lost.version else _found_unshown
     return session, [lost.cause, words(found, begun)]
+
+
+def kept_alone(session: Session, lost: Lost) -> Command[Any] | None:
+    """The one command that was not answered, if it is in the book, and nothing after it."""
+    if len(lost.unanswered) != 1 or session.last_version != lost.version + 1:
+        return None
+    (command,) = lost.unanswered
+    if not isinstance(command, Command) or not aftermath.is_in(session, command):
+        return None
+    return command
+
+
+def deed_found(
+    session: Session, command: Command[Any], before: Sequence[Paragraph]
+) -> Deed | None:
+    """What the last command of a book did, which was not answered; none if it took something back."""
+    answer: object = None
+    if isinstance(command, requests.Type):
+        answer = max(session.paragraphs(), key=lambda each: each.id)
+    elif isinstance(command, requests.Mark):
+        answer = session.marks_of(command.paragraph)[-1]
+    return deed_of(command, answer, before)
 
 
 def tell_end(console: Console, name: str, version: int, strayed: str) -> None:
