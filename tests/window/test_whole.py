@@ -53,6 +53,17 @@ def test_words_are_changed_everywhere_and_that_is_taken_back(
     assert desk.window.message.text == "Taken back: “a” was replaced in 1 place."
 
 
+def test_words_that_were_taken_out_are_not_said_to_be_replaced(
+    desk: Desk, given: Answers
+) -> None:
+    given["fields"] = ["Twice ", ""], [False, False]
+    given["choices"] = [0]
+    desk.act("change_all")
+    assert prints_of(desk)[2] == "a day the sea comes up."
+    desk.act("take_back")
+    assert desk.window.message.text == "Taken back: “Twice ” was taken out of 1 place."
+
+
 def test_words_are_changed_everywhere_also_where_that_can_not_be_noted(
     desk: Desk, given: Answers, monkeypatch: pytest.MonkeyPatch
 ) -> None:
@@ -283,7 +294,7 @@ def test_the_book_is_parted_into_volumes(desk: Desk, given: Answers) -> None:
     given["text"], given["choices"] = "2", [0]
     desk.act("part")
     assert given["said"][0].endswith(
-        "Paragraph 3 would begin a volume.\nShall they begin there?"
+        "Paragraph 3 would begin a volume.\nShall the volumes be set so?"
     )
     assert desk.window.message.text == "Kept: 1 beginning of volumes set."
     assert [each.begins_volume for each in desk.contents.paragraphs][2]

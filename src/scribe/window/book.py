@@ -460,7 +460,9 @@ class OpenBook:
         since = reversed(self._deeds[len(before) :])
         backs = (*backs, *(command for each in since for command in each.back))
         if backs:
-            what = f"{quoted(wanted.old)} was replaced in {counted(len(backs), 'place')}"
+            became = "replaced in" if wanted.new else "taken out of"
+            places = counted(len(backs), "place")
+            what = f"{quoted(wanted.old)} was {became} {places}"
             self._deeds = (*before, Deed(what, backs))
 
     def taken_back(self, report: Callable[[int, int], None]) -> Done:
