@@ -21,7 +21,7 @@ from braildesk.desk.own_folder import MOST_BYTES
 from braildesk.desk.record import NotSuch, Record
 from braildesk.text.spans import Span
 
-from scribe.words.drafts import Unsent, not_kept
+from scribe.words.drafts import Unsent, not_kept, taken_back_in_part
 from sitting import Sit
 from strangers import NEEDS_ROOT, STRANGER, as_stranger
 
@@ -770,3 +770,21 @@ def test_what_is_kept_is_kept_for_another_book_but_for_what_can_not_be_read(
     assert other.waiting() is None
     assert other.given_up() == (NOTE,)
     assert other.cut() == "far away"
+
+
+@pytest.mark.parametrize(
+    "done, said",
+    [
+        (0, "none of them was"),
+        (1, "at most 1 of them was"),
+        (2, "at most 2 of them were"),
+    ],
+)
+def test_how_much_was_taken_back_is_said_of_one_and_of_many(
+    moon: Path, done: int, said: str
+) -> None:
+    drafts = Drafts(moon)
+    drafts.take_back(4, 3)
+    assert taken_back_in_part(drafts, 4 + done) == (
+        f"Taking back 3 changes was cut short: {said} taken back."
+    )

@@ -62,7 +62,7 @@ class Volumes:
             desk.say(f"The volumes begin there already: {whole}")
             return
         said = "\n".join([whole, *lines[:12], *_more(lines[12:]), *to_begin(changed)])
-        asked = f"{said}\nShall they begin there?"
+        asked = f"{said}\nShall the volumes be set so?"
         answers = ("&Yes", "&No")
         if dialogs.choice(desk.window, "Part into volumes", asked, answers):
             desk.say("Nothing was changed.")

@@ -47,7 +47,8 @@ def taken_back_in_part(drafts: Drafts, version: int) -> str:
         drafts.take_back(version, 0)
     if done >= count:
         return ""
-    most = f"at most {done:,} of them were" if done else "none of them was"
+    were = "was" if done == 1 else "were"
+    most = f"at most {done:,} of them {were}" if done else "none of them was"
     return f"Taking back {count:,} changes was cut short: {most} taken back."
 
 
