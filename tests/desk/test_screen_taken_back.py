@@ -4,10 +4,13 @@ from pathlib import Path
 
 import pytest
 
-from braildesk import Session
+from braildesk import Session, Style
+
+from scribe.screen.desk import Desk
 from sitting import Sat, Sit
 from stand_in import ANSWERED, KEPT, KILL_PROGRAM, KILL_SCRIBE, READ, REPLY
 from terminal import Open, once_free, standing_in
+from tool import scribe, wait_for_program
 
 #: Keys, what `u` says after them, and what the chosen paragraph or the book is then as before.
 DEEDS = {
@@ -308,6 +311,64 @@ def test_what_others_typed_meanwhile_is_no_import_of_this_one(
         " is."
     )
     assert sat.state.deeds == ()
+
+
+@pytest.mark.parametrize("is_volume", [False, True])
+def test_what_others_set_during_an_import_is_not_of_this_one(
+    moon: Path, sit: Sit, monkeypatch: pytest.MonkeyPatch, is_volume: bool
+) -> None:
+    open_further = Desk._open_further
+
+    def opened_after_others(desk: Desk) -> None:
+        with Session(moon) as session:
+            if is_volume:
+                session.set_begins_volume(2, True)
+            else:
+                session.set_style(2, "heading")
+        open_further(desk)
+
+    monkeypatch.setattr(Desk, "_open_further", opened_after_others)
+    sat = sit(moon)
+    text = moon.with_name("more.txt")
+    text.write_text("The sun\n\nThe stars.\n")
+    sat.press("i", *str(text), "enter")
+    sat.state = sat.desk.away(sat.state, print)
+    assert sat.state.pages is not None and sat.state.pages.lines[0] == (
+        "Another program changed the book meanwhile. It is at version 10 now, and is shown as it"
+        " is."
+    )
+    assert sat.state.deeds == ()
+
+
+def test_the_rest_of_an_import_is_taken_back_with_the_heading_that_was_lacking(
+    moon: Path, sit: Sit
+) -> None:
+    text = moon.with_name("more.md")
+    text.write_text("The sun\n\n# The stars\n\nThe sea.\n")
+    # the heading is in the book, and isn't one yet
+    ran = scribe(
+        *("import", str(moon), str(text)),
+        folder=moon.parent,
+        before=wait_for_program,
+        **standing_in(2, KEPT, KILL_PROGRAM),
+    )
+    assert ran.status == 3
+    once_free(moon).close()
+    sat = sit(moon)
+    sat.press("y")
+    sat.state = sat.desk.away(sat.state, print)
+    assert sat.state.pages is not None and sat.state.pages.lines == (
+        "1 paragraph typed, number 6, by the table en.",
+    )
+    assert sat.state.book[4].style is Style.HEADING
+    sat.press("escape", "u")
+    assert sat.state.question and sat.state.question.sentence == (
+        "This was done last and isn't taken back: paragraph 5 was made a heading, and paragraph 6"
+        " was imported. Shall all of it be taken back?"
+    )
+    sat.press("y")
+    sat.state = sat.desk.away(sat.state, print)
+    assert (sat.state.book[4].style, sat.state.book[5].struck) == (Style.BODY, True)
 
 
 def test_what_is_refused_midway_is_said_and_the_rest_is_taken_back_later(

@@ -217,6 +217,37 @@ def test_what_another_program_typed_is_not_taken_back_as_an_import(
         book.taken_back(lambda *_: None)
 
 
+def test_what_another_program_set_is_not_of_an_import(
+    book: OpenBook, moon: Path
+) -> None:
+    before = book.contents()
+    book.close()
+    with Session(moon) as session:
+        session.set_style(2, "heading")
+        session.add_paragraph("end", "en", "The stars")
+    book.imported(before, 1)
+    with pytest.raises(NothingToTakeBack):
+        book.taken_back(lambda *_: None)
+
+
+def test_what_an_import_lacked_is_taken_back_with_it(
+    book: OpenBook, moon: Path
+) -> None:
+    before = book.contents()
+    book.close()
+    with Session(moon) as session:
+        session.set_style(2, "heading")
+        session.add_paragraph("end", "en", "The stars")
+    book.imported(before, 1, [requests.Style(2, Style.HEADING)])
+    done = book.taken_back(lambda *_: None)
+    assert done.said == (
+        "Taken back: paragraph 2 was made a heading, and paragraph 4 was imported. The book keeps"
+        " it, struck."
+    )
+    assert done.contents.paragraphs[1] == before.paragraphs[1]
+    assert done.contents.paragraphs[3].struck
+
+
 @pytest.mark.parametrize(
     "command",
     [

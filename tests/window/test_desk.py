@@ -401,9 +401,9 @@ def test_what_an_import_did_is_said_also_if_the_session_after_it_ends(
     monkeypatch.setattr(dialogs, "report", lambda _, title, lines: shown.extend(lines))
     imported = OpenBook.imported
 
-    def then_killed(book: OpenBook, before: Contents, count: int | None) -> Contents:
+    def then_killed(book: OpenBook, before: Contents, *of_import: Any) -> Contents:
         monkeypatch.setattr(OpenBook, "imported", imported)
-        imported(book, before, count)
+        imported(book, before, *of_import)
         os.kill(book.pid, signal.SIGKILL)
         if not is_there:
             desk.path.rename(tmp_path / "away")

@@ -4,12 +4,14 @@ from collections.abc import Callable
 from dataclasses import dataclass, replace
 from io import BytesIO
 from pathlib import Path
+from typing import Any
 
 from braildesk import DeskError
 from braildesk.desk import USUAL_WAIT
 from braildesk.desk.earlier import Undecided
 from braildesk.desk.export import Job
 from braildesk.desk.import_text import Import
+from braildesk.protocol.requests import Command
 
 from scribe.screen.actions import ExportTo, ImportFrom, LeaveImport
 from scribe.screen.state import Question
@@ -28,6 +30,8 @@ class ActionResult:
     kept: str = ""
     #: How many paragraphs were imported, if that is known.
     count: int | None = None
+    #: What an import first set of the paragraph before it, which an earlier part of it lacked.
+    lacking: tuple[Command[Any], ...] = ()
     #: What is asked before a text is imported that was imported before.
     question: Question | None = None
 
@@ -52,7 +56,7 @@ def done_in_background(
     shown, said = Heard(report), Heard(report)
     console = _Beside(BytesIO(), shown, said, check, tell=report)
     what = "Export." if isinstance(action, ExportTo) else "Import."
-    ending = ActionResult(what, (), count=0)
+    ending, lacking = ActionResult(what, (), count=0), list[Command[Any]]()
     try:
         with in_sentences():
             if isinstance(action, ExportTo):
@@ -60,7 +64,7 @@ def done_in_background(
                     Job(path, action.folder, action.page_size, USUAL_WAIT), console
                 )
             else:
-                ending = _imported(path, action, console, ending)
+                ending = _imported(path, action, console, ending, lacking)
     except Stop as stop:
         console.show(*stop.lines)
     except (DeskError, Interrupted) as failed:
@@ -69,13 +73,20 @@ def done_in_background(
         if isinstance(action, ImportFrom):
             ending = replace(ending, count=None)
     lines = (*shown.getvalue().splitlines(), *said.getvalue().splitlines())
-    return replace(ending, lines=lines)
+    return replace(ending, lines=lines, lacking=tuple(lacking))
 
 
 def _imported(
-    path: Path, action: ImportFrom, console: Console, ending: ActionResult
+    path: Path,
+    action: ImportFrom,
+    console: Console,
+    ending: ActionResult,
+    lacking: list[Command[Any]],
 ) -> ActionResult:
-    """The result with what was kept by an import, or what is asked before it is done."""
+    """The result with what was kept by an import, or what is asked before it is done.
+
+    What it sets first of the paragraph before it is put among what is lacking.
+    """
     job = Import(
         path,
         action.path,
@@ -85,7 +96,9 @@ def _imported(
         wait=USUAL_WAIT,
     )
     try:
-        outcome = import_in_words(job, console)
+        outcome = import_in_words(
+            job, console, begun=lambda intake: lacking.extend(intake.lacking)
+        )
     except Undecided as undecided:
         return replace(ending, question=question_about(undecided, action))
     return replace(ending, kept=outcome.kept, count=outcome.count)

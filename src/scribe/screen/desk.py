@@ -377,10 +377,11 @@ class Desk:
             state = replace(state, kept=f"kept: {what}")
         if ending.question:
             state = replace(state, question=ending.question)
-        state = with_imported(before, state, ending.count)
+        of_import = ending.count, ending.lacking
+        state = with_imported(before, state, *of_import)
         commands = state.version - before.version
         more = deeds.changed_between(
-            before.book, state.book, state.version, commands, ending.count
+            before.book, state.book, state.version, commands, *of_import
         )
         lines = (*more, *ending.lines)
         if lines:

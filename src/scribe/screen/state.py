@@ -1,6 +1,6 @@
 """What the screen knows: all that is drawn, and all by which a key is understood."""
 
-from collections.abc import Mapping
+from collections.abc import Mapping, Sequence
 from dataclasses import dataclass, field, replace
 from enum import Enum, auto
 from typing import Any
@@ -421,10 +421,15 @@ def done_by_one_key(state: State, before: int) -> State:
     return replace(state, deeds=(*state.deeds[:before], together(done)))
 
 
-def with_imported(before: State, after: State, count: int | None) -> State:
-    """The state with an import, of so many paragraphs if that is known, as a deed, if it was alone."""
+def with_imported(
+    before: State, after: State, count: int | None, lacking: Sequence[Command[Any]]
+) -> State:
+    """The state with an import, of so many paragraphs if that is known, as a deed, if it was alone.
+
+    It first did what an earlier part of it lacked.
+    """
     commands = after.version - before.version
-    deed = imported(before.book, after.book, commands, count)
+    deed = imported(before.book, after.book, commands, count, lacking)
     return after if deed is None else replace(after, deeds=(*before.deeds, deed))
 
 

@@ -502,14 +502,20 @@ class OpenBook:
         number = deed.paragraph or getattr(deed.back[-1], "paragraph", None)
         return Done(self.contents(), deed.sentence, number)
 
-    def imported(self, before: Contents, count: int | None) -> Contents:
+    def imported(
+        self,
+        before: Contents,
+        count: int | None,
+        lacking: Sequence[Command[Any]] = (),
+    ) -> Contents:
         """The book after an import, which is taken back at once if nothing else changed it.
 
-        It had so many paragraphs, if that is known.
+        It had so many paragraphs, if that is known, and first did what an earlier part of it lacked.
         """
         now = self.opened()
         commands = now.version - before.version
-        deed = deeds.imported(before.paragraphs, now.paragraphs, commands, count)
+        of_import = commands, count, lacking
+        deed = deeds.imported(before.paragraphs, now.paragraphs, *of_import)
         if deed is not None:
             self._deeds = (*self._deeds, deed)
         elif now.version != before.version:

@@ -5,14 +5,17 @@ from collections.abc import Callable, Sequence
 from dataclasses import dataclass, replace
 from io import BytesIO
 from pathlib import Path
+from typing import Any
 
 from braildesk import After, DeskError, Lost
 from braildesk.desk import USUAL_WAIT
 from braildesk.desk.earlier import Undecided, Way
 from braildesk.desk.export import Job
 from braildesk.desk.import_text import Import
+from braildesk.desk.intake import Intake
 from braildesk.desk.proof import open_marks, proof_pages
 from braildesk.desk.whole_file import Access, write_whole
+from braildesk.protocol.requests import Command
 from braildesk.workshop import MayNotLast
 
 from scribe.window import dialogs
@@ -165,12 +168,16 @@ class Files:
         )
         if way is Way.GO_ON:
             job = replace(job, table=None, after="end")
+        lacking = list[Command[Any]]()
+
+        def begun(intake: Intake) -> None:
+            lacking.extend(intake.lacking)
+
+        def act(console: Console) -> int | None:
+            return import_in_words(job, console, None, _AGAIN, begun).count
+
         try:
-            self._aside(
-                "Import",
-                lambda console: import_in_words(job, console, None, _AGAIN).count,
-                None,
-            )
+            self._aside("Import", act, None, lacking)
         except Undecided as undecided:
             self.decide(path, undecided)
 
@@ -197,12 +204,16 @@ class Files:
         desk.say_too(aside)
 
     def _aside(
-        self, title: str, act: Callable[[Console], int | None], cut: int | None
+        self,
+        title: str,
+        act: Callable[[Console], int | None],
+        cut: int | None,
+        lacking: Sequence[Command[Any]] = (),
     ) -> None:
         """Does something with the session closed, and shows what was said of it.
 
         That gives how many paragraphs the book has by it, if that is known, and if it is cut short
-        they are so many.
+        they are so many. By then it is known what an earlier part of them lacked.
         """
         desk = self.desk
         before = desk.contents
@@ -220,11 +231,12 @@ class Files:
             console = _Beside(BytesIO(), heard, heard, check, tell=say)
             count = _told(act, console, problems, cut)
             done.extend(heard.getvalue().splitlines())
-            now = desk.book.imported(before, count)
-            book, commands = now.paragraphs, now.version - before.version
-            more = changed_between(
-                before.paragraphs, book, now.version, commands, count
-            )
+            now = desk.book.imported(before, count, lacking)
+            books, commands = (
+                before.paragraphs,
+                now.paragraphs,
+            ), now.version - before.version
+            more = changed_between(*books, now.version, commands, count, lacking)
             return now, (*more, *done)
 
         try:

@@ -128,16 +128,22 @@ def imported(
     now: Sequence[Paragraph],
     commands: int,
     count: int | None,
+    lacking: Sequence[Command[Any]] = (),
 ) -> Deed | None:
     """What an import did to a book, if so many commands were that and nothing else.
 
-    It had so many paragraphs, if that is known.
+    It had so many paragraphs, if that is known, and first did what an earlier part of it lacked.
     """
+    if not _are_of_import(before, now, commands, count, lacking):
+        return None
     there = {each.id for each in before}
     new = sorted(each.id for each in now if each.id not in there)
-    if not new or not _are_of_import(before, now, commands, count):
+    found = [deed_of(each, None, before) for each in lacking if _is_done(each, now)]
+    done = [*filter(None, found), *([typed(new, "imported")] if new else [])]
+    if not done:
         return None
-    return typed(new, "imported")
+    back = tuple(command for each in reversed(done) for command in each.back)
+    return Deed(", and ".join(each.what for each in done), back, done[-1].left)
 
 
 def _are_of_import(
@@ -145,22 +151,37 @@ def _are_of_import(
     now: Sequence[Paragraph],
     commands: int,
     count: int | None,
+    lacking: Sequence[Command[Any]],
 ) -> bool:
     """Whether so many commands were an import alone, of so many paragraphs if that is known."""
     is_count = count is None or count == len(now) - len(before)
-    return is_count and commands == _commands_between(before, now)
+    return is_count and commands == _commands_of_import(before, now, lacking)
 
 
-def _commands_between(before: Sequence[Paragraph], now: Sequence[Paragraph]) -> int:
-    """How many commands an import was: one for each paragraph, heading and begin of a volume."""
-    earlier = {each.id: each for each in before}
-    count = 0
-    for each in now:
-        was = earlier.get(each.id)
-        count += was is None
-        count += each.style is not (was.style if was else Style.BODY)
-        count += each.begins_volume is not (was.begins_volume if was else False)
-    return count
+def _commands_of_import(
+    before: Sequence[Paragraph],
+    now: Sequence[Paragraph],
+    lacking: Sequence[Command[Any]],
+) -> int:
+    """How many commands an import was: one for each paragraph, heading and begin of a volume.
+
+    Of the paragraphs that were there it set only what an earlier part of it lacked.
+    """
+    there = {each.id for each in before}
+    new = [each for each in now if each.id not in there]
+    settings = sum((each.style is not Style.BODY) + each.begins_volume for each in new)
+    return len(new) + settings + sum(_is_done(each, now) for each in lacking)
+
+
+def _is_done(command: Command[Any], now: Sequence[Paragraph]) -> bool:
+    """Whether a paragraph is set as a command sets it."""
+    match command:
+        case requests.Style(paragraph=number):
+            return any(p.id == number and p.style is command.style for p in now)
+        case requests.Volume(paragraph=number):
+            begins = command.begins
+            return any(p.id == number and p.begins_volume is begins for p in now)
+    return False
 
 
 def changed_between(
@@ -169,12 +190,13 @@ def changed_between(
     version: int,
     commands: int,
     count: int | None,
+    lacking: Sequence[Command[Any]] = (),
 ) -> tuple[str, ...]:
     """What is said if a book, which is at a version now, had other commands than those of an import.
 
-    That had so many paragraphs, if that is known.
+    That had so many paragraphs, if that is known, and first did what an earlier part of it lacked.
     """
-    if _are_of_import(before, now, commands, count):
+    if _are_of_import(before, now, commands, count, lacking):
         return ()
     return (
         f"Another program changed the book meanwhile. It is at version {version:,} now, and is"

@@ -94,18 +94,23 @@ class Outcome:
 
 
 def import_in_words(
-    job: Import, console: Console, report: Path | None = None, again: str = ""
+    job: Import,
+    console: Console,
+    report: Path | None = None,
+    again: str = "",
+    begun: Callable[["Intake"], None] = lambda intake: None,
 ) -> Outcome:
     """Imports a text, and says what became of it.
 
     What a book can't hold of it is said before that, and all of it is written to a file, if one is
-    named. If it was cut short, `again` says how to go on where that isn't by a command. Raises
-    `NotImported`.
+    named. If it was cut short, `again` says how to go on where that isn't by a command. `begun` is
+    called before the first of it is typed. Raises `NotImported`.
     """
     with _importer(job, console) as importer:
         intake = prepared(importer, console, console.say, report)
         with _stopped_before_typing(console):
             intake = importer.hold_again(intake)
+        begun(intake)
         try:
             typed = importer.type_text(intake, console.progress("paragraphs typed"))
         except CutShort as cut:
