@@ -114,15 +114,20 @@ def _why_no_file_more(folder: str) -> Why | None:
     return None
 
 
-def little_room(path: str) -> int | None:
-    """How many bytes there is room for on the disk of a path, if they are few."""
+def room(path: str) -> int | None:
+    """How many bytes there is room for on the disk of a path, if that is seen."""
     try:
         disk = os.statvfs(os.path.dirname(os.path.realpath(path)))
     except (OSError, ValueError):
         return None
     blocks = disk.f_bavail if os.geteuid() else disk.f_bfree
-    room = blocks * disk.f_frsize
-    return room if room < _LITTLE else None
+    return blocks * disk.f_frsize
+
+
+def little_room(path: str) -> int | None:
+    """How many bytes there is room for on the disk of a path, if they are few."""
+    found = room(path)
+    return found if found is not None and found < _LITTLE else None
 
 
 def _why(asked: AskedOfFile) -> Why:

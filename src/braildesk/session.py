@@ -372,6 +372,9 @@ class Session(Asking):
         """The exception of a session whose program could not keep a command, and has ended by that."""
         room = opening.little_room(self._book.path)
         self._pipe.close()
+        if room == 0:
+            # the program has given up the room of its log by now
+            room = opening.room(self._book.path)
         refusal = refused_as(Refusal(Code.NOT_KEPT, request, room=room))
         if self._rescue.has(self._seen):
             return self._lose(Lost, refusal.sentence)

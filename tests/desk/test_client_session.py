@@ -313,11 +313,14 @@ def test_a_session_ends_well_and_leaves_all_in_the_file(book: Path) -> None:
 
 
 @pytest.mark.parametrize(
-    "pages, said",
+    "pages, then, said",
     [
-        (0, " See to the disk: there is no room on it."),
-        (2, " See to the disk: there is little room on it."),
-        (1_000_000, " See to the disk."),
+        (0, 0, " See to the disk: there is no room on it."),
+        # the log had it, which the program gives up as it ends
+        (0, 33, " See to the disk: there is little room on it."),
+        (0, 300, " See to the disk: there is little room on it."),
+        (2, 33, " See to the disk: there is little room on it."),
+        (1_000_000, 1_000_000, " See to the disk."),
     ],
 )
 def test_what_was_not_kept_says_how_little_room_there_is(
@@ -325,12 +328,16 @@ def test_what_was_not_kept_says_how_little_room_there_is(
     script: Callable[[str], Path],
     monkeypatch: pytest.MonkeyPatch,
     pages: int,
+    then: int,
     said: str,
 ) -> None:
-    free = os.statvfs_result((4_096, 4_096, 2_000_000, pages, pages, 9, 9, 9, 0, 255))
+    found = [
+        os.statvfs_result((4_096, 4_096, 2_000_000, free, free, 9, 9, 9, 0, 255))
+        for free in (pages, then)
+    ]
     program = script("read line; echo end 3; read line; echo no 91")
     with Session(book, program) as session:
-        monkeypatch.setattr(os, "statvfs", lambda path: free)
+        monkeypatch.setattr(os, "statvfs", lambda path: found.pop(0))
         with pytest.raises(Lost) as caught:
             session.strike(1)
     assert caught.value.cause == (
