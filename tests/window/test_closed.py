@@ -9,9 +9,10 @@ from typing import Any
 import pytest
 
 from braildesk import Session, requests
-from braildesk.desk.draft import Aim
+from braildesk.desk.draft import Aim, Draft
 from braildesk.desk.drafts import Drafts
 from braildesk.desk.layout import PageSize
+from braildesk.text.spans import Span
 
 from PyQt6.QtCore import QEvent, Qt
 from PyQt6.QtGui import QInputMethodEvent, QKeyEvent
@@ -21,7 +22,7 @@ from scribe.window import dialogs
 from scribe.window.actions import Actions
 from scribe.window.desk import Desk
 
-from conftest import Open
+from conftest import Open, wait
 from test_whole import prints_of
 
 STRUCK = "Paragraph 1 is struck. Ctrl+D restores it, so that it can be changed. Nothing was typed."
@@ -55,6 +56,47 @@ def test_a_text_that_can_be_kept_nowhere_is_said_to_be_lost_with_the_window(
     (asked,) = stays
     assert asked.endswith(f"Nothing was changed.\n\n{_LOST}")
     desk.window.print.setPlainText("The Moon")
+
+
+@pytest.mark.parametrize("more", ["", "Kept: paragraph 4. "])
+def test_that_a_text_can_be_kept_nowhere_is_said_until_it_is_kept(
+    desk: Desk, application: QApplication, tmp_path: Path, more: str
+) -> None:
+    _without_folder(tmp_path)
+    said = (
+        f"What is typed can't be kept in {tmp_path}/state/braildesk: Not a directory."
+    )
+    desk.window.print.insertPlainText("#")
+    message = desk.window.message
+    assert wait(application, 5, lambda: message.text == said)
+    desk.say(f"{more}{said}")
+    (tmp_path / "state" / "braildesk").unlink()
+    assert wait(application, 5, lambda: message.text == more.strip())
+    assert (text := Drafts(desk.path).waiting()) and text.text == "#The Moon"
+    desk.window.print.setPlainText("The Moon")
+
+
+def test_what_is_said_meanwhile_stays_while_it_is_tried_to_keep_a_text(
+    desk: Desk, application: QApplication, tmp_path: Path
+) -> None:
+    _without_folder(tmp_path)
+    desk.window.print.insertPlainText("#")
+    message = desk.window.message
+    assert wait(application, 5, lambda: "can't be kept in" in message.text)
+    desk.say("The caret is on no mark.")
+    assert not wait(application, 2.5, lambda: "can't be kept in" in message.text)
+    assert message.text == "The caret is on no mark."
+    desk.window.print.setPlainText("The Moon")
+
+
+def test_a_note_that_can_be_kept_nowhere_is_said_to_be_while_it_is_typed(
+    desk: Desk, application: QApplication, tmp_path: Path
+) -> None:
+    _without_folder(tmp_path)
+    desk.have_wait(Draft(Aim.NOTE, 1, "en", "The Moon", "who?", Span(0, 1), 5))
+    message = desk.window.message
+    assert wait(application, 5, lambda: "can't be kept in" in message.text)
+    desk.have_wait(None)
 
 
 def test_what_is_given_up_and_can_be_kept_nowhere_is_typed_further(

@@ -118,6 +118,8 @@ class Desk:
     _is_typed_nowhere = False
     # the text that was put into the print last by no hands
     _put_in = ""
+    # what is said to be in the way of keeping what is typed
+    _unkept = ""
 
     def __init__(
         self,
@@ -174,6 +176,7 @@ class Desk:
         window = self.window
         self._resting = QTimer(window)
         self._resting.timeout.connect(self._note_place)
+        self._resting.timeout.connect(self._keep_again)
         chosen.currentChanged.connect(self._chosen)
         window.print.textChanged.connect(self._typed)
         window.print.cursorPositionChanged.connect(self._in_print)
@@ -834,14 +837,29 @@ class Desk:
 
     def keep_draft(self, draft: Draft | None) -> None:
         """Has a text wait until the book has it, or nothing."""
+        self._keep(draft, self._say_besides)
+
+    def _keep_again(self) -> None:
+        """Tries again to keep what couldn't be kept, of which is said only that it is by now."""
+        if self._unkept and not self._is_acting:
+            self._keep(self.draft(), lambda sentence: None)
+
+    def _keep(self, draft: Draft | None, say: Callable[[str], None]) -> None:
+        """Does the same, and has it said what is in the way of that as long as that is so."""
 
         def look(found: "Future[None]") -> None:
             try:
                 found.result()
             except NotKept as fault:
                 # what the book has by now need not wait
-                if draft is not None and self.is_typed():
-                    self._say_besides(not_kept(fault))
+                if draft is not None and self.draft() is not None:
+                    self._unkept = visible(not_kept(fault))
+                    say(self._unkept)
+                    return
+            before, self._unkept = self._unkept, ""
+            message = self.window.message.text
+            if before and before in message:
+                self.say(message.replace(f" {before}", "").replace(before, "").strip())
 
         saved = self._saved
 
