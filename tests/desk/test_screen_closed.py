@@ -212,6 +212,11 @@ def test_what_the_system_refuses_is_said_and_the_screen_stays(
     terminal.wait("The system failed: ")
     terminal.keys("s")
     terminal.wait("kept: paragraph 1 struck")
+    # what came with it isn't lost
+    terminal.keys("U")
+    terminal.wait("set aside: “The sun”.")
+    terminal.keys("n")
+    terminal.wait("It stays given up.")
     terminal.keys("q")
     assert terminal.ended() == 0
     assert terminal.said == ""

@@ -429,11 +429,21 @@ class Screen:
         except Interrupted:
             # text among what is left is kept at the end
             self._waiting += self._not_begun()
+        except OSError as failure:
+            self._set_rest_aside(self._not_begun(), failure)
         finally:
             self._under_way = deque()
             self._leave_said()
             self._end_work()
             self._wait_for_held()
+
+    def _set_rest_aside(self, rest: Sequence[Stroke], failure: OSError) -> None:
+        """Gives up the text among keys of which the system refused the first, and says so."""
+        said, text = of_system(failure), "".join(map(text_of, rest))
+        if text.strip():
+            self.state = self._desk.set_aside(self.state, text, True)
+            said = f"{said} {self.state.message}"
+        self._become(self.state.saying(said))
 
     def _is_stopped_among_lines(self, key: Stroke) -> bool:
         """Whether lines still wait that a key had be typed, since scribe is to end."""
