@@ -898,12 +898,17 @@ class Desk:
             case TakeBack():
                 return self._taking_back(state, action)
             case GiveUp() | PutOff() | BringBack() | PutBy():
-                state = with_text(self._session, self._unsent, state, action)
-                self._copy_kept()
-                return state
+                return self._with_text(state, action)
             case OpenAgain():
                 said = _OPEN_INSTEAD if state.is_displaced else _OPEN_AGAIN
                 return self._opened_anew(state, said)
+
+    def _with_text(
+        self, state: State, action: GiveUp | PutOff | BringBack | PutBy
+    ) -> State:
+        state = with_text(self._session, self._unsent, state, action)
+        self._copy_kept()
+        return state
 
     def _left_out(self, state: State, action: LeaveImport | LeaveChange) -> State:
         if isinstance(action, LeaveChange):

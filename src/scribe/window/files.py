@@ -232,12 +232,7 @@ class Files:
             count = _told(act, console, problems, cut)
             done.extend(heard.getvalue().splitlines())
             now = desk.book.imported(before, count, lacking)
-            books, commands = (
-                before.paragraphs,
-                now.paragraphs,
-            ), now.version - before.version
-            more = changed_between(*books, now.version, commands, count, lacking)
-            return now, (*more, *done)
+            return now, (*_changed(before, now, count, lacking), *done)
 
         try:
             contents, lines = dialogs.long(desk.window, desk.work, title, whole)
@@ -266,6 +261,17 @@ class Files:
         if done:
             dialogs.report(desk.window, title, [*done, why])
         return Stop(" ".join([*done[-1:], why]))
+
+
+def _changed(
+    before: Contents,
+    now: Contents,
+    count: int | None,
+    lacking: Sequence[Command[Any]],
+) -> tuple[str, ...]:
+    """What is said if others changed the book, too."""
+    books, commands = (before.paragraphs, now.paragraphs), now.version - before.version
+    return changed_between(*books, now.version, commands, count, lacking)
 
 
 def _told(
