@@ -215,20 +215,15 @@ class Files:
         That gives how many paragraphs the book has by it, if that is known, and if it is cut short
         they are so many. By then it is known what an earlier part of them lacked.
         """
-        desk = self.desk
-        before = desk.contents
+        desk, before = self.desk, self.desk.contents
         problems: list[Undecided] = []
         done: list[str] = []
         desk.unwatch()
 
         def whole(say: Say, is_stopped: IsStopped) -> tuple[Contents, tuple[str, ...]]:
-            def check() -> None:
-                if is_stopped():
-                    raise Interrupted(signal.SIGINT)
-
             heard = Heard(say)
             desk.book.close()
-            console = _Beside(BytesIO(), heard, heard, check, tell=say)
+            console = _Beside(BytesIO(), heard, heard, _until(is_stopped), tell=say)
             count = _told(act, console, problems, cut)
             done.extend(heard.getvalue().splitlines())
             now = desk.book.imported(before, count, lacking)
@@ -237,9 +232,7 @@ class Files:
         try:
             contents, lines = dialogs.long(desk.window, desk.work, title, whole)
         except Lost as lost:
-            desk.is_closed = True
-            desk.after_loss(lost)
-            dialogs.report(desk.window, title, [*done, desk.window.message.text])
+            self._lost(title, done, lost)
             return
         except (DeskError, OSError) as failed:
             raise self._closed(title, done, failed) from failed
@@ -251,6 +244,13 @@ class Files:
         desk.say(lines[-1] if lines else f"{title}: done.")
         dialogs.report(desk.window, title, lines)
 
+    def _lost(self, title: str, done: Sequence[str], lost: Lost) -> None:
+        """Shows what was done before the session in which the book was opened again ended."""
+        self.desk.is_closed = True
+        self.desk.after_loss(lost)
+        said = self.desk.window.message.text
+        dialogs.report(self.desk.window, title, [*done, said])
+
     def _closed(
         self, title: str, done: Sequence[str], failed: DeskError | OSError
     ) -> Stop:
@@ -261,6 +261,16 @@ class Files:
         if done:
             dialogs.report(desk.window, title, [*done, why])
         return Stop(" ".join([*done[-1:], why]))
+
+
+def _until(is_stopped: IsStopped) -> Callable[[], None]:
+    """A check that ends what is being done once it is stopped."""
+
+    def check() -> None:
+        if is_stopped():
+            raise Interrupted(signal.SIGINT)
+
+    return check
 
 
 def _changed(
