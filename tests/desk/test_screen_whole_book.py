@@ -370,6 +370,7 @@ def test_what_the_book_refuses_stays_and_is_said_with_the_reason(
     assert "has no cells for “☃”" in sat.state.message
     assert sat.state.pages and len(sat.state.pages.lines) == 6
     sat.press("a")
+    assert sat.state.pages.title == "Nothing was changed."
     lines = sat.state.pages.lines
     assert lines[:2] == (
         "“tide” was replaced by “tide☃” nowhere.",

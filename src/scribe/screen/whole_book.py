@@ -376,7 +376,8 @@ def _all_changed(
         state = _changed(session, state, deed, kept)
     lines = [*of_list.totals(state.version), *of_list.refusals()]
     lines += filter(None, (said, touched(marks)))
-    return replace(state, pages=Pages("Changed.", tuple(lines)))
+    title = "Changed." if of_list.changed else "Nothing was changed."
+    return replace(state, pages=Pages(title, tuple(lines)))
 
 
 def _done_before(offer: ChangePlaces) -> Count:
