@@ -11,6 +11,7 @@ from pathlib import Path
 import pytest
 from hypothesis import HealthCheck, given, settings
 from hypothesis import strategies as st
+from prompted import Prompted
 from sitting import Sit
 from stand_in import KEPT, KILL_SCRIBE
 from terminal import once_free, standing_in
@@ -453,6 +454,32 @@ def test_an_answer_ends_a_change_that_was_cut_short_and_the_end_of_the_input_doe
     )
     assert "“tide” was replaced by “tides” nowhere.\n2 places stay as" in ran.said
     assert Drafts(tides).changes() == ()
+
+
+def test_the_end_of_the_input_at_a_place_ends_a_talk_as_at_other_questions(
+    tides: Path,
+) -> None:
+    talk = Prompted("talk", str(tides), folder=tides.parent)
+    talk.type("change-all tide tides --ask", prompt=": ")
+    talk.type("yes", prompt=": ")
+    ran = talk.end("\x04")
+    assert ran.status == 0
+    assert ran.shown.replace("\r", "").endswith(
+        "“tide” was replaced by “tides” in 1 place of 1 paragraph.\n"
+        "The book is at version 6.\nThe input ended, so the rest stays as it was.\n"
+        "The book is at version 6.\n"
+    )
+
+
+@pytest.mark.parametrize("word", ["quit", "q", "exit", "help", "maybe"])
+def test_a_word_that_is_no_answer_at_a_place_is_asked_for_again(
+    tides: Path, word: str
+) -> None:
+    given = f"change-all tide tides --ask\n{word}\nyes\nstop\n"
+    ran = scribe("talk", tides, folder=tides.parent, given=given)
+    assert "The answers are yes, no, all and stop." in ran.said
+    assert "“tide” was replaced by “tides” in 1 place of 1 paragraph." in ran.said
+    assert prints(tides)[0] == "The tides"
 
 
 @pytest.mark.parametrize(

@@ -28,6 +28,14 @@ class Ended(Exception):
     """There are no more lines."""
 
 
+class EndedAmong(Ended):
+    """There are no more lines, and it was said what became of the one that was answered."""
+
+
+class NoAnswer(GivenUp):
+    """The person typed what begins as a command does, and is no answer."""
+
+
 @dataclass
 class Conversation:
     """A session with a book and a person, and how they are spoken to."""
@@ -79,7 +87,7 @@ class Conversation:
                 self.console.say(sentence(str(fault)) + way_out)
                 if answer.split(" ")[0] in self.commands:
                     # somebody who types a command has forgotten the question
-                    raise GivenUp from fault
+                    raise NoAnswer from fault
 
     def _answer(self, question: str, short: str) -> bytes:
         """The line that is typed after a question, or after the same in a word or two."""

@@ -17,7 +17,7 @@ from scribe.cli.book_command import BookCommand
 from scribe.cli.own_modules import hold_modules
 from scribe.cli.opened_book import said_where_stopped
 from scribe.cli.parser import Parser, add_ranges, add_width, argument
-from scribe.prompt.conversation import Ended
+from scribe.prompt.conversation import Ended, EndedAmong, NoAnswer
 from scribe.prompt.typed_lines import GivenUp, Lines, PipedLines, TypedLines, are_typed
 from scribe.words.change_all import (
     QUESTION,
@@ -172,6 +172,10 @@ def _changed(
             console.show(*lines)
     except _Unanswered:
         said.append(_ENDED)
+    except Ended as ended:
+        # a conversation ends as well, after it is said what was changed
+        console.say(*count.sentences(session.last_version), _ENDED)
+        raise EndedAmong from ended
     console.say(*count.sentences(session.last_version), *said)
     return Status.REFUSED if count.refused else Status.DONE
 
@@ -194,12 +198,14 @@ def _asked_at_prompt(ask_person: Callable[..., Any]) -> str:
 
     Whoever gives up stops, since what was changed before stays so.
     """
-    try:
-        return str(ask_person(QUESTION, SHORT_QUESTION, answered))
-    except GivenUp:
-        return STOP
-    except Ended as ended:
-        raise _Unanswered from ended
+    while True:
+        try:
+            return str(ask_person(QUESTION, SHORT_QUESTION, answered))
+        except NoAnswer:
+            # asked again, as after any other word
+            continue
+        except GivenUp:
+            return STOP
 
 
 def _asked(console: Console) -> str:

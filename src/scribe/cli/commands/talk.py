@@ -21,7 +21,7 @@ from scribe.cli.parser import (
     words,
 )
 from scribe.prompt.broken_off import BrokenOff
-from scribe.prompt.conversation import Conversation, Ended, request_line
+from scribe.prompt.conversation import Conversation, Ended, EndedAmong, request_line
 from scribe.prompt.typed_lines import GivenUp, Lines, PipedLines, TypedLines, are_typed
 from scribe.words.aftermath import opened_again, tell_end
 from scribe.words.console import Console
@@ -130,6 +130,8 @@ def _talk(conversation: Conversation, file: Path) -> Lost | None:
         except Stop as stop:
             console.say(*stop.lines)
             conversation.bring_back()
+        except EndedAmong:
+            return None
         except Ended:
             if conversation.typed:
                 # somebody was asked for more of that line
