@@ -6,6 +6,7 @@ import math
 import os
 import signal
 import sys
+import termios
 import time
 from collections import deque
 from collections.abc import Callable, Sequence
@@ -137,6 +138,15 @@ class TerminalFailed(Exception):
     def __init__(self, failure: OSError) -> None:
         super().__init__(failure)
         self.failure = failure
+
+
+def _is_there() -> bool:
+    """Whether the terminal is there to be read: SIGHUP may come from elsewhere."""
+    try:
+        termios.tcgetattr(sys.stdin.fileno())
+    except termios.error:
+        return False
+    return True
 
 
 def agree_on_widths() -> None:
@@ -294,7 +304,8 @@ class Screen:
         def ended(number: int, frame: FrameType | None) -> None:
             if self.ended_by is None:
                 self.ended_by = signal.Signals(number)
-            leave = self._hang_up if number == signal.SIGHUP else self._leave
+            is_gone = number == signal.SIGHUP and not _is_there()
+            leave = self._hang_up if is_gone else self._leave
             if not loop.is_closed():
                 loop.call_soon_threadsafe(leave)
 
