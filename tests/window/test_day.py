@@ -138,7 +138,7 @@ def test_paragraphs_are_typed_one_after_another(moon: Path, at: Open) -> None:
     window.press("Return")
     window.reads("Message", "Kept: paragraph 5.")
     window.press("Escape")
-    window.reads("Message", "No paragraph was typed.")
+    window.reads("Message", "This paragraph was empty, and wasn't added.")
     window.reads("Print", "Two")
     window.press("Ctrl+Shift+Return")
     window.part("label", "A new paragraph before paragraph 5, table en")

@@ -156,7 +156,7 @@ class Typed:
         draft, focused = desk.draft(), desk.window.focusWidget()
         if draft is None and desk.new is not None:
             desk.leave_new()
-            desk.say("No paragraph was typed.")
+            desk.say("This paragraph was empty, and wasn't added.")
             return
         if draft is None:
             desk.show_reading(desk.window.print.place)
