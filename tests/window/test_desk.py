@@ -208,6 +208,22 @@ def test_a_manuscript_is_imported_with_its_headings_and_a_report(
     )
 
 
+def test_with_nothing_to_take_back_a_correction_is_named_only_where_there_is_one(
+    desk: Desk,
+) -> None:
+    nothing = "There is nothing that Ctrl+Z could take back."
+    further = " Ctrl+Shift+Z takes back the newest correction of the paragraph."
+    desk.act("take_back")
+    assert desk.window.message.text == nothing
+    number = desk.settled()
+    desk.asked(lambda: desk.book.session.correct(number, 0, 3, "A"))
+    desk.act("take_back")
+    assert desk.window.message.text == nothing + further
+    desk.asked(lambda: desk.book.session.undo(number))
+    desk.act("take_back")
+    assert desk.window.message.text == nothing
+
+
 def test_what_others_changed_during_an_export_is_said(
     desk: Desk, tmp_path: Path, monkeypatch: pytest.MonkeyPatch
 ) -> None:

@@ -6,7 +6,7 @@ from contextlib import suppress
 from dataclasses import replace
 from typing import Any
 
-from braildesk import After, Refused, requests
+from braildesk import After, Kind, Refused, requests
 from braildesk.desk.draft import Aim, Draft
 from braildesk.desk.drafts import NotKept
 from braildesk.desk.kept_lines import LinesLeft
@@ -68,10 +68,21 @@ class Typed:
             )
             desk.window.model.all_unread()
         except NothingToTakeBack:
-            desk.refuse(
-                "There is nothing that Ctrl+Z could take back. Ctrl+Shift+Z takes back the newest"
-                " correction of the paragraph."
-            )
+            said = "There is nothing that Ctrl+Z could take back."
+            if self._is_corrected():
+                said += (
+                    " Ctrl+Shift+Z takes back the newest correction of the paragraph."
+                )
+            desk.refuse(said)
+
+    def _is_corrected(self) -> bool:
+        """Whether the chosen paragraph has a correction that wasn't taken back."""
+        desk = self.desk
+        if desk.reading is None:
+            return False
+        number = desk.chosen.id
+        history = desk.asked(lambda: desk.book.session.history_of(number))
+        return 2 * sum(each.kind is Kind.UNDO for each in history) < len(history)
 
     def _back(self, say: Say, is_stopped: IsStopped) -> Done:
         """Takes back what was done last, and notes how far that is where it takes many commands."""
