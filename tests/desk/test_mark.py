@@ -259,3 +259,11 @@ def test_the_next_open_mark_is_said_to_be_in_a_struck_paragraph(marked: Path) ->
         session.strike(2)
     ran = scribe("next", marked, folder=marked.parent)
     assert ran.shown.splitlines()[1] == "Paragraph 2, struck: Two [moons]"
+
+
+def test_marks_of_a_struck_paragraph_are_said_to_be_in_one(marked: Path) -> None:
+    with Session(marked) as session:
+        session.strike(2)
+    shown = marks(marked).shown.splitlines()
+    assert shown[0] == "Mark 3, open, paragraph 2, struck, on “moons”: one moon"
+    assert shown[1] == "Mark 1, open, paragraph 1, on “20”: the day?"

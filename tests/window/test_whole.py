@@ -411,6 +411,11 @@ def test_headings_and_marks_are_gone_to_by_their_lists(
     ]
     assert (desk.number, desk.window.print.place, desk.in_hand) == (2, 4, 1)
     assert desk.window.message.text == "Mark 1, open, on “mon”: spelled so?"
+    desk.do(requests.Strike(2))
+    desk.act("all_marks")
+    assert given["said"][-1] == (
+        "Mark 1, open, on no page, paragraph 2, struck, on “mon”: spelled so?"
+    )
 
 
 def test_a_mark_is_in_hand_until_the_caret_is_moved_off_it(desk: Desk) -> None:

@@ -130,4 +130,5 @@ class Going:
 
 def _line(its: MarkOfBook, pages: PageMap) -> str:
     place = pages.of_character(its.paragraph, its.mark.start, its.text)
-    return mark_line(its.mark, its.text, its.paragraph, page_place(place))
+    life = "struck" if its.is_struck else ""
+    return mark_line(its.mark, its.text, its.paragraph, page_place(place), life)

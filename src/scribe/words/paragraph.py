@@ -29,15 +29,20 @@ def title(paragraph: Paragraph, with_table: bool) -> str:
 
 
 def mark_line(
-    mark: Mark, text: str, paragraph: int | None = None, page: str = ""
+    mark: Mark,
+    text: str,
+    paragraph: int | None = None,
+    page: str = "",
+    life: str = "",
 ) -> str:
-    """A mark with the words that it stands on in a print, where that is, and its note."""
+    """A mark with the words that it stands on in a print, where and what that is, and its note."""
     flags = [
         f"Mark {mark.id}",
         "resolved" if mark.resolved else "open",
         "touched" if mark.touched else "",
         page,
         "" if paragraph is None else f"paragraph {paragraph}",
+        life,
         marked_words(mark, text),
     ]
     line = ", ".join(flag for flag in flags if flag)

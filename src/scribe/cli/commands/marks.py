@@ -47,7 +47,8 @@ def answer(session: Session, arguments: Namespace, console: Console) -> None:
     for each in marks:
         if not (arguments.open and each.mark.resolved):
             page = "" if pages is None else _page(pages, each)
-            console.show(mark_line(each.mark, each.text, each.paragraph, page))
+            life = "struck" if each.is_struck else ""
+            console.show(mark_line(each.mark, each.text, each.paragraph, page, life))
     whose = "The book" if number is None else f"Paragraph {number}"
     console.say(marks_summary(marks, whose))
 
