@@ -233,6 +233,29 @@ def test_n_says_where_it_goes_around_and_that_there_is_no_other_mark(
     )
 
 
+@pytest.mark.parametrize("lines", [1, 2, 3, 4])
+def test_n_says_the_note_of_a_mark_first_where_it_has_no_row(
+    moon: Path, sit: Sit, lines: int
+) -> None:
+    note = "spelled so? Ask the author of the book"
+    with Session(moon) as session:
+        session.add_mark(2, 4, 5, note)
+    around = "No open mark up to the end of the book: this is the first in it."
+    sat = sit(moon, size=Size(40, lines))
+    sat.press("n", "n", "n")
+    (mark,) = (m for m in sat.state.marks_here if sat.state.is_on(m))
+    said = f"Mark 1, open, on “moon”: {mark.note} {around}"
+    assert sat.state.message == said
+    sat.press("n")
+    assert (note in sat.state.message) == (lines < 3)
+    shown = [sat.lines[-1]]
+    while lines < 3 and shown[-1].rstrip().endswith("…"):
+        sat.press("down")
+        shown.append(sat.lines[-1])
+    read = " ".join(each.rstrip().removesuffix("…") for each in shown)
+    assert (note in read) == (lines < 3)
+
+
 def test_marks_that_are_touched_besides_the_one_in_hand_are_named(
     moon: Path, sit: Sit
 ) -> None:

@@ -15,7 +15,10 @@ from scribe.screen.actions import ToFound, ToMark
 from scribe.screen.in_hand import at_mark
 from scribe.screen.state import Pane, State, WordsFound
 from scribe.words.find import in_words
-from scribe.words.paragraph import quoted
+from scribe.words.paragraph import mark_line, quoted
+
+# on so many lines what is said covers the marks
+_FEW = 4
 
 
 def to_found(session: Session, state: State, action: ToFound) -> State:
@@ -47,7 +50,19 @@ def to_mark(session: Session, state: State, action: ToMark) -> State:
     found = search.next_mark(session, here.book, spot, action.is_back)
     if found is None:
         return state.saying("The book has no open marks.")
-    return at_mark(replace(here, anchor=None), found, action.is_back)
+    state = at_mark(replace(here, anchor=None), found, action.is_back)
+    return _saying_mark(session, state, found)
+
+
+def _saying_mark(session: Session, state: State, found: search.Found) -> State:
+    """The state in which a mark is said too, where it has no row beside what is said."""
+    lines = state.size.lines
+    if lines > _FEW or lines > 2 and not state.message:
+        return state
+    number = state.book[found.spot.chosen].id
+    mark = next(m for m in session.marks_of(number) if m.id == found.spot.mark)
+    line = mark_line(mark, session.print_of(number))
+    return state.saying(f"{line} {state.message}".rstrip())
 
 
 def _spot_of_mark(state: State, held: Mark | None) -> search.Spot:
