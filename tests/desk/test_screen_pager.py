@@ -2,6 +2,8 @@
 
 from dataclasses import replace
 
+import pytest
+
 from scribe.screen.pager import at_line, beside, moved, seen
 from scribe.screen.state import Pages, Size
 
@@ -133,6 +135,24 @@ def test_a_head_that_is_too_long_is_wrapped_and_leaves_room_for_lines() -> None:
         "25.",
     )
     assert len(found.lines) == 6
+
+
+@pytest.mark.parametrize(
+    "title, wanted",
+    [
+        ("3 places of “sea”, each with its words.", "3 places of… Lines 1"),
+        ("Abc.", "Abc. Lines 1"),
+    ],
+)
+def test_beside_a_line_on_few_rows_a_long_head_is_seen_from_its_front(
+    title: str, wanted: str
+) -> None:
+    size = Size(34, 5)
+    pages = Pages(title, ("One", "Two", "Three"), place=0)
+    found = seen(pages, size)
+    assert found.head[0].startswith(wanted) and len(found.head) == 1
+    assert found.head[0].endswith(" Lines 1 to 1 of 3.")
+    assert found.cursor == 1
 
 
 def test_other_keys_move_nothing() -> None:

@@ -4,6 +4,7 @@ from dataclasses import dataclass, replace
 from functools import lru_cache
 
 from braildesk.text.characters import visible
+from braildesk.text.excerpt import opening
 from braildesk.text.wrapping import wrap
 
 from scribe.screen.state import HEAD_LINE, Pages, Size, Target
@@ -44,8 +45,19 @@ def seen(pages: Pages, size: Size) -> Seen:
         # no line is seen beside it
         head = f"{pages.title} {counted(len(lines), 'line')}."
         wrapped = tuple(wrap(visible(head), size.columns))
+    elif pages.place != HEAD_LINE and len(wrapped) >= max(2, size.lines - OTHERS):
+        # what is looked at and where that is, in the one row beside a line
+        wrapped = (_in_a_row(pages.title, head.removeprefix(pages.title), size),)
     is_seen = top <= pages.place < top + len(shown)
     return Seen(wrapped, shown, len(wrapped) + pages.place - top if is_seen else 0)
+
+
+def _in_a_row(title: str, where: str, size: Size) -> str:
+    """The front of a title, and where the lines are, in one row."""
+    room = size.columns - len(where) - 1
+    if room < 1:
+        return opening(where.lstrip(), size.columns)
+    return f"{opening(visible(title), room)}{where}"
 
 
 def at_line(pages: Pages, size: Size, number: int) -> Pages:
