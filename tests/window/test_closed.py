@@ -21,6 +21,7 @@ from PyQt6.QtWidgets import QApplication
 from scribe.window import dialogs
 from scribe.window.actions import Actions
 from scribe.window.desk import Desk
+from scribe.window.held import Held
 
 from conftest import Open, wait
 from test_whole import prints_of
@@ -87,6 +88,23 @@ def test_what_is_said_meanwhile_stays_while_it_is_tried_to_keep_a_text(
     assert not wait(application, 2.5, lambda: "can't be kept in" in message.text)
     assert message.text == "The caret is on no mark."
     desk.window.print.setPlainText("The Moon")
+
+
+def test_that_a_text_which_is_held_can_be_kept_nowhere_is_said_until_it_is_kept(
+    desk: Desk,
+    application: QApplication,
+    tmp_path: Path,
+    monkeypatch: pytest.MonkeyPatch,
+) -> None:
+    _without_folder(tmp_path)
+    monkeypatch.setattr(Held, "text", "Typed on meanwhile.")
+    desk.held.changed.emit()
+    message = desk.window.message
+    assert wait(application, 5, lambda: "can't be kept in" in message.text)
+    (tmp_path / "state" / "braildesk").unlink()
+    desk.held.changed.emit()
+    assert wait(application, 5, lambda: message.text == "")
+    monkeypatch.setattr(Held, "text", "")
 
 
 def test_a_note_that_can_be_kept_nowhere_is_said_to_be_while_it_is_typed(

@@ -28,7 +28,9 @@ from scribe.window.desk import Desk
 from scribe.window.held import Held
 from scribe.window.worker import Worker
 from scribe.words.console import Console
+from scribe.words.drafts import typed_at_offer
 from scribe.words.import_text import Outcome, import_in_words
+from scribe.words.status import Stop
 
 from conftest import wait
 
@@ -180,6 +182,40 @@ def test_a_file_that_is_dropped_is_imported(
     desk.window.dropEvent(drop)
     assert wait(application, 60, lambda: imported == [text, text])
     assert len(_prints(desk)) == 5
+
+
+def test_a_file_that_is_dropped_while_something_else_is_done_is_said_to_be_left(
+    desk: Desk, tmp_path: Path
+) -> None:
+    (text := tmp_path / "text.txt").write_text("One.\n")
+
+    def act() -> None:
+        desk.window.dropped.emit(text)
+        desk.say("Done.")
+
+    desk.acting(act)
+    assert desk.window.message.text == (
+        "Done. text.txt was dropped while something else was being done, and wasn't imported."
+    )
+    assert len(_prints(desk)) == 3
+
+
+def test_a_text_that_is_typed_at_an_offer_is_said_to_be_given_up_after_a_refusal(
+    desk: Desk, monkeypatch: pytest.MonkeyPatch
+) -> None:
+    def typed(*words: Any) -> int:
+        words[-1]("The sea.")
+        return 0
+
+    monkeypatch.setattr("scribe.window.desk.offer", typed)
+
+    def act() -> None:
+        desk.offered("Import", "Shall it be imported?", ("&Yes", "&No"))
+        raise Stop("It is there no more.")
+
+    desk.acting(act)
+    said = f"It is there no more. {typed_at_offer('The sea.')} Ctrl+B brings it back."
+    assert desk.window.message.text == said
 
 
 def test_a_manuscript_is_imported_with_its_headings_and_a_report(

@@ -1,12 +1,15 @@
 """Words that were typed to take the place of others, and weren't used."""
 
+from pathlib import Path
+
 import pytest
+from PyQt6.QtWidgets import QApplication
 
 from braildesk.desk.drafts import Drafts
 
 from scribe.window.desk import Desk
 
-from conftest import Answers
+from conftest import Answers, wait
 
 
 @pytest.mark.parametrize("new", ["ocean", ""])
@@ -72,3 +75,29 @@ def test_words_that_were_typed_to_change_all_are_there_again_until_they_are_used
     desk.wait_for_draft()
     assert firsts == [("", ""), ("a", "one")]
     assert Drafts(desk.path).words() is None
+
+
+def test_that_words_can_be_kept_nowhere_is_said_until_they_are_kept(
+    desk: Desk,
+    application: QApplication,
+    monkeypatch: pytest.MonkeyPatch,
+    tmp_path: Path,
+) -> None:
+    folder, message = tmp_path / "state" / "braildesk", desk.window.message
+    folder.write_text("")
+
+    def text(
+        over: object, title: str, asked: str, first: str, changed: object
+    ) -> object:
+        assert callable(changed)
+        changed("se")
+        assert wait(application, 5, lambda: "can't be kept in" in message.text)
+        folder.unlink()
+        changed("sea")
+        assert wait(application, 5, lambda: message.text == "")
+        return None
+
+    monkeypatch.setattr("scribe.window.dialogs.text", text)
+    desk.act("change")
+    desk.wait_for_draft()
+    assert Drafts(desk.path).words() == ("sea", "")

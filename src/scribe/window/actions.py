@@ -33,9 +33,7 @@ class Actions:
         }
         #: Asks about what waits from before.
         self.offer = Offers(desk, typed, files, changing).offer
-        desk.window.dropped.connect(
-            lambda path: desk.acting(lambda: files.imported(path))
-        )
+        desk.window.dropped.connect(files.dropped)
         field = desk.window.print
         field.pasted.connect(lambda lines: desk.acting(lambda: typed.pasted(lines)))
         field.files_pasted.connect(

@@ -18,6 +18,7 @@ from braildesk.desk.change_note import Became
 from braildesk.desk.changed_so_far import Further, left_open, note_of
 from braildesk.desk.correction import replaced
 from braildesk.desk.drafts import NotKept
+from braildesk.text.characters import visible
 
 from scribe.window import dialogs
 from scribe.window.desk import Desk
@@ -52,6 +53,8 @@ class Changing:
     def __init__(self, desk: Desk, finding: Finding) -> None:
         self.desk = desk
         self._finding = finding
+        # what is in the way of keeping words, if anything is
+        self._unkept = ""
 
     def change(self) -> None:
         """Puts other words in place of those at the caret that were looked for."""
@@ -105,7 +108,11 @@ class Changing:
             try:
                 found.result()
             except NotKept as fault:
-                desk.say(not_kept(fault))
+                self._unkept = visible(not_kept(fault))
+                desk.say(self._unkept)
+                return
+            before, self._unkept = self._unkept, ""
+            desk.unsay(before)
 
         desk.aside.latest("words", lambda: desk.drafts.keep_words(old, new), look)
 

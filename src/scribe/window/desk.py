@@ -120,6 +120,8 @@ class Desk:
     _put_in = ""
     # what is said to be in the way of keeping what is typed
     _unkept = ""
+    # the same of a text that is held while the window waits
+    _unheld = ""
 
     def __init__(
         self,
@@ -266,6 +268,11 @@ class Desk:
         """Does what a menu or a key asks for."""
         self.acting(self.acts[name])
 
+    @property
+    def is_acting(self) -> bool:
+        """Whether something is being done, so that nothing else is."""
+        return self._is_acting
+
     def acting(self, act: Callable[[], None]) -> None:
         """Does something, unless something else is being done."""
         if self._is_acting:
@@ -284,6 +291,10 @@ class Desk:
             self.keep_draft(self.draft())
             self.say_too(self._meanwhile)
             self._meanwhile = ""
+
+    def say_after(self, sentence: str) -> None:
+        """Says something once what is being done has said what became of it."""
+        self._meanwhile = f"{self._meanwhile} {sentence}".lstrip()
 
     @contextmanager
     def failures(self) -> Iterator[None]:
@@ -349,6 +360,13 @@ class Desk:
         if message.selected == whole:
             message.setPlainText(text)
         message.select(whole)
+
+    def unsay(self, sentence: str) -> None:
+        """Has it said no more that something can't be kept, unless it is so of something else."""
+        message = self.window.message.text
+        is_so = sentence in (self._unkept, self._unheld)
+        if sentence and sentence in message and not is_so:
+            self.say(message.replace(f" {sentence}", "").replace(sentence, "").strip())
 
     def _say_besides(self, sentence: str) -> None:
         """Says something after what was refused, if that is being read."""
@@ -492,7 +510,7 @@ class Desk:
             draft = replace(what, version=self.contents.version)
         how = self.aside.result(lambda: self.unsent.put_by(draft), False)
         how = how or "Ctrl+B brings it back."
-        self._meanwhile = f"{said(text)} {how}"
+        self.say_after(f"{said(text)} {how}")
 
     def _cover(self, is_covered: bool) -> None:
         """Gives up what others than hands type in the print below a dialog.
@@ -857,9 +875,7 @@ class Desk:
                     say(self._unkept)
                     return
             before, self._unkept = self._unkept, ""
-            message = self.window.message.text
-            if before and before in message:
-                self.say(message.replace(f" {before}", "").replace(before, "").strip())
+            self.unsay(before)
 
         saved = self._saved
 
@@ -934,14 +950,16 @@ class Desk:
             try:
                 found.result()
             except NotKept as fault:
-                self._say_besides(not_kept(fault))
+                self._unheld = visible(not_kept(fault))
+                self._say_besides(self._unheld)
+                return
+            before, self._unheld = self._unheld, ""
+            self.unsay(before)
 
         self.aside.latest("held", lambda: self.unsent.keep_unread(held), look)
 
-    def offered(
-        self, title: str, asked: str, answers: Sequence[str]
-    ) -> tuple[int, str]:
-        """The answer to what no key has asked for, and what is said of a text that was typed there."""
+    def offered(self, title: str, asked: str, answers: Sequence[str]) -> int:
+        """The answer to what no key has asked for; a text that was typed there is given up."""
         typed = ""
 
         def keep(text: str) -> None:
@@ -951,7 +969,7 @@ class Desk:
 
         answer = offer(self.window, title, asked, answers, keep)
         if not typed:
-            return answer, ""
+            return answer
 
         def put_by() -> str:
             how = self.unsent.put_by(self._of_new(typed))
@@ -960,7 +978,9 @@ class Desk:
             return how or "Ctrl+B brings it back."
 
         how = self.aside.result(put_by, False)
-        return answer, f"{typed_at_offer(typed)} {how}"
+        # also where what was answered is refused
+        self.say_after(f"{typed_at_offer(typed)} {how}")
+        return answer
 
     def say_too(self, sentence: str) -> None:
         """Says something after what is said already."""
@@ -1030,7 +1050,7 @@ class Desk:
             said = f"{typed_there(text)} {how or 'Ctrl+B brings it back.'}"
             if self._is_acting:
                 # what is being done says something else first
-                self._meanwhile = said
+                self.say_after(said)
             else:
                 self.refuse(f"{self._why_not_typed} {said}")
 

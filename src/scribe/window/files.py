@@ -156,6 +156,15 @@ class Files:
         else:
             self.imported(path)
 
+    def dropped(self, path: Path) -> None:
+        """Imports a file that was dropped, unless something else is being done."""
+        if self.desk.is_acting:
+            self.desk.say_after(
+                f"{path.name} was dropped while something else was being done, and wasn't imported."
+            )
+            return
+        self.desk.acting(lambda: self.imported(path))
+
     def imported(self, path: Path, way: Way = Way.ASK) -> None:
         """Types the paragraphs of a text after the chosen one."""
         desk = self.desk
@@ -189,9 +198,9 @@ class Files:
             if note is None
             else ["&Yes", "Leave the &rest out", "&Later"]
         )
-        asked, aside = question(undecided), ""
+        asked = question(undecided)
         if is_offer:
-            answer, aside = desk.offered("Import", asked, answers)
+            answer = desk.offered("Import", asked, answers)
         else:
             answer = dialogs.choice(desk.window, "Import", asked, answers)
         if answer == 0:
@@ -201,7 +210,6 @@ class Files:
             desk.say(
                 f"The rest of {note.name} is left out. What is in the book stays there."
             )
-        desk.say_too(aside)
 
     def _aside(
         self,

@@ -103,13 +103,12 @@ class Offers:
         desk = self.desk
         asked = f"{cut_short(note, now)} Shall the others be changed?"
         answers = ("&Yes", "Leave the &rest", "&Later")
-        answer, aside = desk.offered("Change everywhere", asked, answers)
+        answer = desk.offered("Change everywhere", asked, answers)
         if answer == 0:
             self._changing.go_on(wanted_by(note, desk.book.by))
         elif answer == 1:
             desk.drafts.end_change(note)
             desk.say(STAY)
-        desk.say_too(aside)
 
     def _offer_text(self, waiting: Draft) -> None:
         desk = self.desk
@@ -130,7 +129,7 @@ class Offers:
             " Shall it be typed further?"
         )
         answers = ("&Type it further", "&Give it up", "&Later")
-        answer, aside = desk.offered("Unsent text", asked, answers)
+        answer = desk.offered("Unsent text", asked, answers)
         if answer < 2:
             desk.unsent.take_on()
         if answer == 0:
@@ -141,4 +140,3 @@ class Offers:
             desk.say(
                 "The text waits for the next opening. Ctrl+B asks about it before."
             )
-        desk.say_too(aside)
