@@ -2301,6 +2301,22 @@ def test_what_a_sheet_does_not_show_is_typed_and_noted() -> None:
     assert "ten" in found.texts
 
 
+def test_sheets_for_print_to_which_a_page_alone_leads_are_said_not_to_be_read() -> None:
+    head = (
+        "<link rel=stylesheet href=a.css><link rel='Stylesheet' href=a.css media=print><link rel=stylesheet href=b.css"
+        " media=screen><link rel='alternate stylesheet' href=c.css><link rel=stylesheet><style>@import 'd.css';</style>"
+    )
+    page = f"<html><head>{head}</head><body><p class=h>Hidden</p></body></html>"
+    found = read_document(page.encode(), ManuscriptKind.HTML)
+    assert lost(found, LossKind.STYLES) == ["a.css", "d.css"]
+    lines = report_lines(Path("a.html"), Taken((), (), found))
+    assert lines[1:] == [
+        "2 style sheets that pages name aren't read: words that they hide are typed, and emphasis by them isn't noted:",
+        "- “a.css”",
+        "- “d.css”",
+    ]
+
+
 def test_what_is_important_goes_before_all_that_is_not() -> None:
     sheet = (
         "p { display: none ! important } #a { display: block } i { display: none }"

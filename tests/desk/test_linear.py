@@ -26,7 +26,7 @@ from braildesk.desk.documents.kinds import ManuscriptKind, NoDocument, WhyNot
 from braildesk.desk.documents.numbers import with_numbers
 from braildesk.desk.documents.numbers_of_odt import with_odt_numbers
 from braildesk.desk.documents.pages import readable_page
-from braildesk.desk.documents.reading import Missing
+from braildesk.desk.documents.reading import LossKind, Missing
 from braildesk.desk.documents.rtf_fields import as_shown
 from braildesk.desk.documents.tree import Node, document
 from braildesk.desk.find import Hit
@@ -162,6 +162,36 @@ def test_what_style_sheets_say_of_a_page_is_found_in_one_walk(page: str) -> None
     started = time.process_time()
     assert contents_of(page.encode(), ManuscriptKind.HTML).losses == []
     assert time.process_time() - started < SECONDS
+
+
+def rules(selectors: str, count: int = 10_000) -> str:
+    """A style sheet of rules that hide what selectors name, each by its number."""
+    numbered = (selectors.format(number) for number in range(count))
+    return f"<style>{''.join(f'{each}{{display:none}}' for each in numbered)}</style>"
+
+
+@pytest.mark.parametrize(
+    "page, is_whole",
+    [
+        (rules(".a{} .b") + "<i class=b>a</i>" * 10_000, True),
+        (rules("#a{} > .b") + "<i class=b id=c>a</i>" * 10_000, True),
+        (rules(".a{} li") + "<ol>" + "<li>a" * 10_000, True),
+        (rules("i.b.c{}") + "<i class=b>a</i>" * 10_000, False),
+        (
+            f"{rules('.x > .y .b')}<p class=x><b><b class=y>{'<i class=b>a</i>' * 10_000}",
+            False,
+        ),
+        (rules("i,i", 5_001) + "<p>a", False),
+    ],
+    ids=["around", "names", "items", "last", "steps", "rules"],
+)
+def test_a_page_of_many_rules_and_elements_is_read_as_far_as_a_limit_and_that_is_noted(
+    page: str, is_whole: bool
+) -> None:
+    started = time.process_time()
+    found = contents_of(page.encode(), ManuscriptKind.HTML)
+    assert time.process_time() - started < SECONDS
+    assert (LossKind.RULES in [each.what for each in found.losses]) is not is_whole
 
 
 @pytest.mark.parametrize(

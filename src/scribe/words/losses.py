@@ -147,6 +147,16 @@ _SAID = {
         "1 list may have other numbers in print, by a style sheet that isn't read",
         "{} lists may have other numbers in print, by style sheets that aren't read",
     ),
+    LossKind.STYLES: (
+        "1 style sheet that the page names isn't read: words that it hides are typed, and emphasis by it isn't noted",
+        "{} style sheets that pages name aren't read: words that they hide are typed, and emphasis by them isn't noted",
+    ),
+    LossKind.RULES: (
+        "1 page has more rules of style than are read: words that the others hide are typed, and emphasis by"
+        " them isn't noted",
+        "{} pages have more rules of style than are read: words that the others hide are typed, and emphasis by"
+        " them isn't noted",
+    ),
     LossKind.LEVEL: (
         "1 heading is below the first level, and a book has only one",
         "{} headings are below the first level, and a book has only one",

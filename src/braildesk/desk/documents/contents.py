@@ -49,6 +49,7 @@ from braildesk.desk.documents.page_emphasis import Emphasized, PageEmphasis
 from braildesk.desk.documents.quotations import QUOTATION
 from braildesk.desk.documents.reading import Loss, LossKind, Missing, plain, whole
 from braildesk.desk.documents.sheets import (
+    Effort,
     PageElement,
     Rule,
     Sheet,
@@ -182,6 +183,11 @@ class Contents:
         self.note_numbers(page.counted)
         for words in page.unsure:
             self.numbers.append(Loss(LossKind.SHEET, words, words))
+        for address in page.unread:
+            self.lose(LossKind.STYLES, address[:_SHOWN])
+        if page.has_more_rules:
+            first = _first(page.passages)
+            self.losses.append(Loss(LossKind.RULES, first, first))
 
     def note_numbers(self, numbers: Iterable[str]) -> None:
         """Notes numbers that aren't typed as they are in print."""
@@ -198,7 +204,7 @@ def contents_of(data: bytes, kind: ManuscriptKind) -> Contents:
     found = Contents()
     if kind is ManuscriptKind.HTML:
         # it is alone, without the sheets to which it links
-        page = _page_of(data.decode(), lambda address: None)
+        page = _page_of(data.decode(), lambda address: None, Effort())
         found.passages += page.passages
         found.note_page(page)
     if kind in _READERS:
@@ -608,7 +614,7 @@ def _of_epub(container: zipfile.ZipFile, found: Contents) -> None:
         is_there = sheet in names
         return part_of(container, sheet).decode(errors="replace") if is_there else ""
 
-    sheets = Sheets(text_of)
+    sheets, effort = Sheets(text_of), Effort()
     for part in package.absent:
         found.lose(LossKind.ABSENT, part)
     for page in package.pages():
@@ -617,7 +623,7 @@ def _of_epub(container: zipfile.ZipFile, found: Contents) -> None:
         except UnreadableText:
             found.lose(LossKind.UNREAD, page.part)
             continue
-        read = _page_of(text, partial(sheets.linked, page.part))
+        read = _page_of(text, partial(sheets.linked, page.part), effort)
         if page.part in package.repeated:
             found.lose(LossKind.REPEATED, _first(read.passages) or page.part)
         found.passages += read.passages
@@ -693,14 +699,16 @@ class _Html(Tags):
         "area base br col embed hr img input link meta param source track wbr".split()
     )
 
-    def __init__(self, linked: Callable[[str], Sequence[Rule] | None]) -> None:
+    def __init__(
+        self, linked: Callable[[str], Sequence[Rule] | None], effort: Effort
+    ) -> None:
         super().__init__()
         self._linked = linked
-        #: Whether a sheet wasn't read.
-        self._is_unread = False
+        #: The addresses of the sheets for print that weren't read, each once.
+        self.unread: dict[str, None] = {}
         #: The numbers of the texts before which a sheet counts.
         self._counted: list[int] = []
-        self._sheet = Sheet()
+        self._sheet = Sheet(effort)
         #: The elements that are open.
         self._path: list[PageElement] = []
         #: How many of them have each tag.
@@ -766,9 +774,14 @@ class _Html(Tags):
     @property
     def unsure(self) -> Iterator[str]:
         """The first words of each list whose numbers a sheet may change that wasn't read."""
-        if self._is_unread:
+        if self.unread:
             lists = (each for each in self._found if each.restyled is None)
             yield from self._firsts(each.unsure for each in lists)
+
+    @property
+    def has_more_rules(self) -> bool:
+        """Whether its sheets have more rules than were read, or tried for all of its elements."""
+        return self._sheet.is_cut
 
     def _firsts(self, places: Iterable[int | None]) -> Iterator[str]:
         """The first words from each place on that there is."""
@@ -910,14 +923,16 @@ class _Html(Tags):
                 self.hidden.append(words[:_SHOWN])
 
     def _link(self, tag: str, attributes: dict[str, str | None]) -> None:
-        if tag == "link" and "stylesheet" in (attributes.get("rel") or "").lower():
+        said = (attributes.get("rel") or "").lower().split()
+        if tag == "link" and "stylesheet" in said and "alternate" not in said:
             address, media = attributes.get("href"), attributes.get("media")
             self._add_sheet(address or "", media or "all")
 
     def _add_sheet(self, address: str, media: str) -> None:
         """Adds the rules of a sheet for some media, if it is read."""
         rules = self._linked(address)
-        self._is_unread |= rules is None and _FOR_PRINT.search(media) is not None
+        if rules is None and address and _FOR_PRINT.search(media):
+            self.unread[address] = None
         self._sheet.add(rules or ())
 
     def _count(self, tag: str, attributes: dict[str, str | None]) -> None:
@@ -1008,8 +1023,10 @@ def _halves(declaration: str) -> tuple[str, str, str]:
     return declaration.partition(":")
 
 
-def _page_of(text: str, linked: Callable[[str], Sequence[Rule] | None]) -> _Html:
-    page = _Html(linked)
+def _page_of(
+    text: str, linked: Callable[[str], Sequence[Rule] | None], effort: Effort
+) -> _Html:
+    page = _Html(linked, effort)
     page.feed(text)
     page.close()
     return page

@@ -38,6 +38,8 @@ class LossKind(Enum):
     NUMBER = auto()
     LIST = auto()
     SHEET = auto()
+    STYLES = auto()
+    RULES = auto()
     LEVEL = auto()
     LENGTH = auto()
     LONG_SENTENCE = auto()

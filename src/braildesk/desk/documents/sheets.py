@@ -6,8 +6,9 @@ media or for print.
 """
 
 import re
-from collections.abc import Callable, Iterable, Iterator, Mapping, Sequence
+from collections.abc import Callable, Collection, Iterator, Mapping, Sequence
 from dataclasses import dataclass
+from itertools import islice
 from pathlib import PurePosixPath
 from posixpath import normpath
 from urllib.parse import unquote
@@ -26,6 +27,10 @@ _CONDITION = re.compile(r"\b(?:layer|supports)\b(?:\([^()]*\))?", re.IGNORECASE)
 _PRINTED = re.compile(r"\b(?:all|print)\b", re.IGNORECASE)
 #: How deep sheets import each other, how many one has with those that it imports, and how many rules.
 _MOST_NESTED, _MOST_SHEETS, _MOST_RULES = 8, 100, 10_000
+#: How much is tried of rules for the elements of a file, which takes some seconds.
+_MOST_STEPS = 8_000_000
+#: How many steps it takes to look at a rule, beside those of its selectors.
+_OF_RULE = 4
 _SELECTOR = re.compile(r"([\w-]+|\*)?((?:[.#][\w-]+)*)")
 #: How deep rules for some media are looked for within others.
 _DEEPEST = 8
@@ -122,44 +127,82 @@ class Rule:
         return bool(places)
 
 
+#: A rule with what it is ordered by, and what it names of elements around.
+_Numbered = tuple[tuple[bool, int, int, int], int, frozenset[str], Rule]
+
+
+class Effort:
+    """How much may still be tried of the rules of a file, whose sheets aren't read any further then."""
+
+    def __init__(self, steps: int = _MOST_STEPS) -> None:
+        self._left = steps
+
+    def take(self, steps: int) -> bool:
+        """Takes some steps; whether there were so many."""
+        self._left -= steps
+        return self._left >= 0
+
+
+class _Index:
+    """Some rules by what their last selectors name, and by what those before them do."""
+
+    def __init__(self) -> None:
+        #: Each with its number and all that it names of elements around.
+        self._rules: dict[str, dict[str, list[_Numbered]]] = {}
+
+    def add(self, number: int, rule: Rule) -> None:
+        """Adds a rule that comes after those of lower numbers."""
+        *outer, last = (each.key for each in rule.selectors)
+        groups = self._rules.setdefault(last, {})
+        numbered = rule.weight, number, frozenset(outer), rule
+        groups.setdefault(outer[-1] if outer else "", []).append(numbered)
+
+    def groups_of(self, element: PageElement) -> list[dict[str, list[_Numbered]]]:
+        """Those that may be for an element, by what an element around it must have."""
+        keys = _keys(element) if self._rules else ()
+        return [self._rules[key] for key in keys if key in self._rules]
+
+
 class Sheet:
     """The rules of some style sheets, of which later ones come after the others."""
 
-    def __init__(self) -> None:
-        #: The lightest first.
-        self._rules: list[Rule] = []
-        #: Those among them that say whether elements are counted, which are few.
-        self._counting: list[Rule] = []
-        #: Those that say something of the marks of lists.
-        self._listing: list[Rule] = []
-        #: Those that say how elements are shown, with their places, by what their last selectors name; and which of
-        #: them may be for an element.
-        self._showing: dict[str, list[tuple[int, Rule]]] = {}
-        self._shown: dict[PageElement, list[Rule]] = {}
-        #: What they say of elements that were asked about, each after those that it is within.
-        self._found: dict[tuple[PageElement, ...], tuple[dict[str, str], ...]] = {}
+    def __init__(self, effort: Effort) -> None:
+        self._effort = effort
+        self._count = 0
+        #: Those that say whether elements are counted; something of the marks of lists; or how elements are shown.
+        self._counting, self._listing, self._showing = _Index(), _Index(), _Index()
+        #: Some elements around others, and what they have that rules name.
+        self._outer: tuple[PageElement, ...] = ()
+        self._around = frozenset([""])
+        #: Whether there is more to try of the rules than is tried; and whether that is so, or there are more rules.
+        self._is_spent = self.is_cut = False
 
-    def add(self, rules: Iterable[Rule]) -> None:
+    def add(self, rules: Sequence[Rule]) -> None:
         """Adds the rules of a sheet after the others."""
-        self._rules += rules
-        self._rules.sort(key=lambda rule: rule.weight)
-        self._counting = [rule for rule in self._rules if _COUNTED in rule.values]
-        self._listing = [
-            rule for rule in self._rules if {_TYPE, _DISPLAY} & rule.values.keys()
-        ]
-        self._showing = {}
-        for placed in enumerate(self._rules):
-            if not _SHOWN.isdisjoint(placed[1].values):
-                key = placed[1].selectors[-1].key
-                self._showing.setdefault(key, []).append(placed)
-        self._found, self._shown = {}, {}
+        left = _MOST_RULES - self._count
+        self.is_cut |= len(rules) > left
+        rules = rules[:left]
+        self._take(len(rules))
+        for number, rule in enumerate(rules, self._count):
+            if _COUNTED in rule.values:
+                self._counting.add(number, rule)
+            if {_TYPE, _DISPLAY} & rule.values.keys():
+                self._listing.add(number, rule)
+            if not _SHOWN.isdisjoint(rule.values):
+                self._showing.add(number, rule)
+        self._count += len(rules)
 
     def mark_of(self, path: Sequence[PageElement], own: str) -> str | None:
         """What stands before an item of a list, or the items of one, if that is said.
 
         ``path`` is the element and those that it is within, ``own`` the style that it has itself.
         """
-        plain, important = self._values(tuple(path[-_INNERMOST:]))
+        said: tuple[dict[str, str], ...] = ({}, {})
+        for rule in self._heaviest(self._listing, path):
+            values = said[rule.is_important]
+            if not rule.values.keys() <= values.keys() and self._fits(rule, path):
+                values.update({**rule.values, **values})
+        plain, important = said
         values = plain | _values(own, False) | important | _values(own, True)
         display = values.get(_DISPLAY, "list-item")
         if path[-1].tag == "li" and "list-item" not in display:
@@ -168,42 +211,49 @@ class Sheet:
 
     def is_counted(self, path: Sequence[PageElement]) -> bool:
         """Whether a number stands in front of an element that no page has, within those before it."""
-        inner = path[-_INNERMOST:] if self._counting else ()
-        fit = [rule.values for rule in self._counting if rule.fits(inner)]
-        return bool(fit and fit[-1][_COUNTED])
+        found = self._heaviest(self._counting, path)
+        fit = next((rule for rule in found if self._fits(rule, path)), None)
+        return fit is not None and bool(fit.values[_COUNTED])
 
     def shown_of(self, path: Sequence[PageElement], own: str) -> dict[str, str]:
         """How an element is shown, as far as that is said; ``path`` and ``own`` are as above."""
-        its = self._shown.get(path[-1])
-        if its is None:
-            its = self._shown[path[-1]] = self._for(path[-1])
-        inner = path[-_INNERMOST:] if its else ()
         plain, important = own_values(own), _values(own, True)
-        for rule in reversed(its):
+        for rule in self._heaviest(self._showing, path):
             values = important if rule.is_important else plain
-            if not rule.values.keys() <= values.keys() and rule.fits(inner):
+            if not rule.values.keys() <= values.keys() and self._fits(rule, path):
                 values.update({**rule.values, **values})
         return plain | important
 
-    def _for(self, element: PageElement) -> list[Rule]:
-        """Those rules that say how an element is shown, wherever it stands."""
-        keys = ["*", element.tag, f"#{element.name}"]
-        keys += [f".{each}" for each in element.classes]
-        found = {
-            place: rule for key in keys for place, rule in self._showing.get(key, ())
-        }
-        its = (found[place] for place in sorted(found))
-        return [rule for rule in its if rule.selectors[-1].fits(element)]
+    def _heaviest(self, index: _Index, path: Sequence[PageElement]) -> Iterator[Rule]:
+        """Those rules, the heaviest first, that may be for an element by what it and those around it have."""
+        found: list[_Numbered] = []
+        for groups in () if self._is_spent else index.groups_of(path[-1]):
+            around = self._keys_around(path)
+            fewer: Collection[str] = min(groups, around, key=len)
+            its = [groups[key] for key in fewer if key in groups and key in around]
+            self._take(len(fewer) + _OF_RULE * sum(map(len, its)))
+            found += (each for rules in its for each in rules if each[2] <= around)
+        found.sort(key=lambda each: each[:2], reverse=True)
+        return (rule for *_, rule in found)
 
-    def _values(self, path: tuple[PageElement, ...]) -> tuple[dict[str, str], ...]:
-        """What is said of an element, and what of that is important."""
-        if path not in self._found:
-            values: tuple[dict[str, str], ...] = ({}, {})
-            for rule in self._listing:
-                if rule.fits(path):
-                    values[rule.is_important].update(rule.values)
-            self._found[path] = values
-        return self._found[path]
+    def _keys_around(self, path: Sequence[PageElement]) -> frozenset[str]:
+        """What rules may name of the elements around the last of some."""
+        outer = tuple(path[-_INNERMOST:-1])
+        if outer != self._outer:
+            keys = [key for element in outer for key in _keys(element)]
+            self._outer, self._around = outer, frozenset(["", *keys])
+            self._take(len(keys))
+        return self._around
+
+    def _fits(self, rule: Rule, path: Sequence[PageElement]) -> bool:
+        """Whether a rule is for the last of some elements; none is any more if too much was tried."""
+        inner = path[-_INNERMOST:]
+        self._take(len(inner) * len(rule.selectors))
+        return not self._is_spent and rule.fits(inner)
+
+    def _take(self, steps: int) -> None:
+        self._is_spent |= not self._effort.take(steps)
+        self.is_cut |= self._is_spent
 
 
 class Sheets:
@@ -241,6 +291,12 @@ class Sheets:
         return is_whole and len(rules) <= _MOST_RULES
 
 
+def _keys(element: PageElement) -> list[str]:
+    """All that a selector may name of an element."""
+    keys = ["*", element.tag, *(f".{each}" for each in element.classes)]
+    return [*keys, f"#{element.name}"] if element.name else keys
+
+
 def imports_of(text: str) -> tuple[str, ...]:
     """The addresses of the sheets that a style sheet, or its front, imports for print."""
     front = _COMMENT.sub(" ", text).partition("{")[0]
@@ -259,7 +315,7 @@ def _beside(part: str, address: str) -> str:
 
 def rules_of(text: str) -> tuple[Rule, ...]:
     """The rules of a style sheet that are known and say something of lists, or of how words are shown."""
-    return tuple(_rules(_COMMENT.sub(" ", text), 1))
+    return tuple(islice(_rules(_COMMENT.sub(" ", text), 1), _MOST_RULES + 1))
 
 
 def _rules(text: str, depth: int) -> Iterator[Rule]:
