@@ -314,6 +314,26 @@ def style(name: str, base: str, inner: str = "") -> str:
     )
 
 
+def test_a_paragraph_is_noted_that_is_bold_or_in_capitals_by_its_style(
+    tmp_path: Path,
+) -> None:
+    styles = style("Warning", "Body", "<w:b/>") + style("Loud", "Body", "<w:caps/>")
+    styles += style("Small", "Loud", '<w:caps w:val="0"/><w:smallCaps/>')
+    styles += style("Calm", "Warning", '<w:b w:val="0"/>') + style("Soft", "Calm")
+    for name in ("Title", "heading 2", "Table Heading"):
+        styles += style(name, "Body", "<w:b/>")
+    names = ("Warning", "Loud", "Small", "Calm", "Soft", "Title", "heading2")
+    body = "".join(
+        paragraph(run(f"In {name}"), style=name) for name in (*names, "TableHeading")
+    )
+    found = read_manuscript(docx(tmp_path / "a.docx", body, styles=styles))
+    assert [loss.words for loss in found.losses if loss.what is LossKind.EMPHASIS] == [
+        "In Warning",
+        "In Loud",
+        "In Small",
+    ]
+
+
 def test_a_paragraph_is_noted_that_is_in_italics_by_its_style(tmp_path: Path) -> None:
     styles = style("Letter", "Body", "<w:i/>") + style("Letter End", "Letter")
     styles += style("Plain", "Letter", '<w:i w:val="0"/>') + style("Round", "Round")
@@ -357,10 +377,15 @@ def test_what_is_shown_of_the_code_of_a_field_is_missing_if_it_has_no_result(
         field(" GOTOBUTTON a Go there ", field("REF b", middle, run(" now"))),
         field("MACROBUTTON Run No", middle, field("REF b", middle, run(" or"))),
     )
+    body += paragraph(
+        '<w:fldSimple w:instr="MACROBUTTON Run Press &amp; hold"/>',
+        '<w:fldSimple w:instr="DATE"/>',
+        f'<w:fldSimple w:instr="MACROBUTTON Run No">{run("so")}</w:fldSimple>',
+    )
     found = read_manuscript(docx(tmp_path / "a.docx", body))
-    assert found.texts == ["Half is pressed now or"]
+    assert found.texts == ["Half is pressed now or", "so"]
     missing = [each.words for each in found.missing]
-    assert missing == ["1a 2b c", "Press here", "Go there"]
+    assert missing == ["1a 2b c", "Press here", "Go there", "Press hold"]
 
 
 @pytest.mark.parametrize(
@@ -461,6 +486,62 @@ def test_text_that_a_style_hides_is_noted_unless_it_is_shown_again(
         (LossKind.HIDDEN, "B"),
         (LossKind.HIDDEN, "hidden"),
     ]
+
+
+def test_words_of_rows_that_are_hidden_are_noted_once(tmp_path: Path) -> None:
+    hidden = run("far", "<w:vanish/>")
+    rows = "".join(
+        f"<w:tr><w:trPr><w:hidden{value}/></w:trPr><w:tc>{paragraph(*runs)}</w:tc></w:tr>"
+        for value, *runs in (
+            ("", run("The moon is "), hidden),
+            (' w:val="0"', run("Shown "), hidden),
+        )
+    )
+    found = read_manuscript(docx(tmp_path / "a.docx", f"<w:tbl>{rows}</w:tbl>"))
+    assert [each.words for each in found.losses if each.what is LossKind.HIDDEN] == [
+        "The moon is far",
+        "far",
+    ]
+
+
+def test_what_a_program_computes_or_another_file_has_is_said_not_to_be_typed(
+    tmp_path: Path,
+) -> None:
+    address = "http://schemas.openxmlformats.org/officeDocument/2006/relationships"
+    body = paragraph(run("Page "), "<w:r><w:pgNum/></w:r>", run(" of a book"))
+    body += paragraph(run("On "), "<w:r><w:dayLong/></w:r><w:r><w:yearShort/></w:r>")
+    body += f'<w:subDoc xmlns:r="{address}" r:id="far"/>'
+    found = read_manuscript(docx(tmp_path / "a.docx", body))
+    assert [(each.what, each.words, each.around) for each in found.losses] == [
+        (LossKind.COMPUTED, "", "Page of a book"),
+        (LossKind.COMPUTED, "", "On"),
+        (LossKind.COMPUTED, "", "On"),
+        (LossKind.OTHER_FILE, "far", "far"),
+    ]
+
+
+def test_what_is_for_older_programs_is_typed_where_nothing_is_for_newer_ones(
+    tmp_path: Path,
+) -> None:
+    def alternate(*parts: str) -> str:
+        return f"<mc:AlternateContent>{''.join(parts)}</mc:AlternateContent>"
+
+    newer = f"<mc:Choice Requires='wps'>{run('new')}</mc:Choice>"
+    older = f"<mc:Fallback>{run('old')}</mc:Fallback>"
+    text = "<mc:Fallback><w:t>within</w:t></mc:Fallback>"
+    body = paragraph(run("One "), alternate(older), run(" two"))
+    body += paragraph(run("Three "), alternate(newer, older))
+    body += paragraph(f"<w:r>{alternate(text)}</w:r>")
+    found = read_manuscript(docx(tmp_path / "a.docx", body))
+    assert found.texts == ["One old two", "Three new", "within"]
+    assert not found.missing
+
+
+def test_a_table_without_words_is_not_said_to_be_typed(tmp_path: Path) -> None:
+    body = table((cell("a"),)) + table((cell(""), cell("")))
+    found = read_manuscript(docx(tmp_path / "a.docx", body))
+    tables = [each.words for each in found.losses if each.what is LossKind.TABLE]
+    assert tables == ["a"]
 
 
 def test_the_title_of_a_table_is_parted_from_its_description(tmp_path: Path) -> None:

@@ -2311,7 +2311,7 @@ def test_sheets_for_print_to_which_a_page_alone_leads_are_said_not_to_be_read() 
     assert lost(found, LossKind.STYLES) == ["a.css", "d.css"]
     lines = report_lines(Path("a.html"), Taken((), (), found))
     assert lines[1:] == [
-        "2 style sheets that pages name aren't read: words that they hide are typed, and emphasis by them isn't noted:",
+        "2 style sheets that pages name aren't read: words that they may hide are typed, and emphasis by them isn't noted:",
         "- “a.css”",
         "- “d.css”",
     ]

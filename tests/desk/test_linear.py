@@ -164,6 +164,40 @@ def test_what_style_sheets_say_of_a_page_is_found_in_one_walk(page: str) -> None
     assert time.process_time() - started < SECONDS
 
 
+@pytest.mark.parametrize(
+    "body, styles",
+    [
+        ("<w:p>" + "<w:r><w:t>a </w:t></w:r>" * 10_000 + "</w:p>", ""),
+        (
+            "<w:p>"
+            + "<w:r><w:instrText>NOTEREF a</w:instrText><w:t>b</w:t></w:r>" * 10_000
+            + "</w:p>",
+            "",
+        ),
+        ("<w:p>" + "<w:r><w:pgNum/><w:t>a </w:t></w:r>" * 10_000 + "</w:p>", ""),
+        (
+            "<w:p><w:r><w:t>a</w:t></w:r></w:p>",
+            '<w:style w:type="paragraph" w:styleId="a">'
+            + "<w:rPr/>" * 10_000
+            + "</w:style>"
+            + "".join(
+                f'<w:style w:type="paragraph" w:styleId="b{n}"><w:basedOn w:val="a"/></w:style>'
+                for n in range(10_000)
+            ),
+        ),
+    ],
+    ids=["runs", "fields", "computed", "styles"],
+)
+def test_runs_and_styles_of_a_document_are_each_looked_through_once(
+    tmp_path: Path, body: str, styles: str
+) -> None:
+    data = docx(tmp_path / "moon.docx", body, styles=styles).read_bytes()
+    started = time.process_time()
+    numbered, _ = with_numbers(data, "*")
+    contents_of(numbered, ManuscriptKind.DOCX)
+    assert time.process_time() - started < SECONDS
+
+
 def rules(selectors: str, count: int = 10_000) -> str:
     """A style sheet of rules that hide what selectors name, each by its number."""
     numbered = (selectors.format(number) for number in range(count))

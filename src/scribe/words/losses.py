@@ -38,6 +38,14 @@ _SAID = {
         "1 embedded document is left out",
         "{} embedded documents are left out",
     ),
+    LossKind.OTHER_FILE: (
+        "1 document in a file of its own, which belongs in this one, is left out",
+        "{} documents in files of their own, which belong in this one, are left out",
+    ),
+    LossKind.COMPUTED: (
+        "1 number of a page or part of a date isn't typed, which a program computes where it stands",
+        "{} numbers of pages or parts of dates aren't typed, which a program computes where they stand",
+    ),
     LossKind.UNREAD: (
         "1 page of the file can't be read in any encoding, and is left out",
         "{} pages of the file can't be read in any encoding, and are left out",
@@ -148,13 +156,13 @@ _SAID = {
         "{} lists may have other numbers in print, by style sheets that aren't read",
     ),
     LossKind.STYLES: (
-        "1 style sheet that the page names isn't read: words that it hides are typed, and emphasis by it isn't noted",
-        "{} style sheets that pages name aren't read: words that they hide are typed, and emphasis by them isn't noted",
+        "1 style sheet that the page names isn't read: words that it may hide are typed, and emphasis by it isn't noted",
+        "{} style sheets that pages name aren't read: words that they may hide are typed, and emphasis by them isn't noted",
     ),
     LossKind.RULES: (
-        "1 page has more rules of style than are read: words that the others hide are typed, and emphasis by"
+        "1 page has more rules of style than are read: words that the others may hide are typed, and emphasis by"
         " them isn't noted",
-        "{} pages have more rules of style than are read: words that the others hide are typed, and emphasis by"
+        "{} pages have more rules of style than are read: words that the others may hide are typed, and emphasis by"
         " them isn't noted",
     ),
     LossKind.LEVEL: (

@@ -22,7 +22,7 @@ from itertools import islice
 from pathlib import PurePosixPath
 from xml.etree.ElementTree import Element, ParseError
 
-from braildesk.desk.documents import styles_of_odt, word_styles
+from braildesk.desk.documents import styles_of_odt, word_print, word_styles
 from braildesk.desk.documents.field_codes import shown_of_code
 from braildesk.desk.documents.kinds import (
     ManuscriptKind,
@@ -106,7 +106,10 @@ _DESCRIPTIONS = {
 _OFF = ("0", "false", "off")
 #: What parts words: the number of a note is typed where it stands.
 _PARTING = ("tab", "ptab", "br", "cr", "footnoteReference", "endnoteReference")
-_FALLBACK = "{http://schemas.openxmlformats.org/markup-compatibility/2006}Fallback"
+_FALLBACK, _CHOICE = (
+    f"{{http://schemas.openxmlformats.org/markup-compatibility/2006}}{name}"
+    for name in ("Fallback", "Choice")
+)
 _TEXT = "{urn:oasis:names:tc:opendocument:xmlns:text:1.0}"
 _OFFICE = "{urn:oasis:names:tc:opendocument:xmlns:office:1.0}"
 _SVG = "{urn:oasis:names:tc:opendocument:xmlns:svg-compatible:1.0}"
@@ -395,6 +398,8 @@ def _of_docx(container: zipfile.ZipFile, found: Contents) -> None:
             found.passages += filter(None, map(shown_of_code, _codes(root)))
             _set_aside(root, hidden, found)
             found.losses += map(partial(Loss, LossKind.PICTURE, ""), _linked(root))
+            for file in _other_files(container, name, root):
+                found.lose(LossKind.OTHER_FILE, file)
         elif _DOCX_EDGES.fullmatch(name):
             for passage in _paragraphs(_root(container, name)):
                 found.add_edge(passage)
@@ -417,10 +422,30 @@ def _styles(container: zipfile.ZipFile) -> Element:
     return Element("")
 
 
+def _other_files(container: zipfile.ZipFile, part: str, root: Element) -> Iterator[str]:
+    """The other files whose documents belong in a part, by their addresses or by what the part calls them."""
+    named = [each.get(f"{_R}id", "") for each in root.iter(f"{_W}subDoc")]
+    folder, _, name = part.rpartition("/")
+    addresses: dict[str, str] = {}
+    if named:
+        with suppress(KeyError, ParseError):
+            relations = _root(container, f"{folder}/_rels/{name}.rels")
+            addresses = {
+                each.get("Id", ""): each.get("Target", "") for each in relations
+            }
+    yield from (addresses.get(each, each) for each in named)
+
+
 def _set_aside(root: Element, hidden: Collection[str], found: Contents) -> None:
     """Notes the print that a part of a document, or styles by their names, hide, and that which was deleted."""
+    rows = list(word_styles.hidden_rows(root))
+    for row in rows:
+        found.lose(LossKind.HIDDEN, "\n".join(_paragraphs(row)))
+    within = {id(run) for row in rows for run in row.iter(f"{_W}r")}
     for run in word_styles.hidden_runs(root, hidden):
-        found.lose(LossKind.HIDDEN, "".join(_runs(run, [])))
+        if id(run) not in within:
+            found.lose(LossKind.HIDDEN, "".join(_runs(run, [])))
+    found.losses += word_print.computed(root)
     for tag in _DELETED:
         for each in root.iter(tag):
             texts = (*each.iter(f"{_W}delText"), *each.iter(f"{_W}t"))
@@ -453,11 +478,12 @@ def _is_described(drawing: Element) -> bool:
 
 def _paragraphs(element: Element) -> Iterator[str]:
     """The paragraphs below an element; those of a text box stand for themselves."""
-    if element.tag == _FALLBACK:
-        return
     initial = ""
     children = [element] if element.tag == f"{_W}p" else list(element)
+    has_newer = element.find(_CHOICE) is not None
     for child in children:
+        if child.tag == _FALLBACK and has_newer:
+            continue
         if child.tag != f"{_W}p":
             yield from _paragraphs(child)
             continue
@@ -486,6 +512,9 @@ def _codes(root: Element) -> Iterator[str]:
             elif codes and kind == "end":
                 begun.pop()
                 yield "".join(codes.pop() or ())
+        elif element.tag == f"{_W}fldSimple":
+            if word_print.has_no_result(element):
+                yield element.get(f"{_W}instr", "")
         elif element.tag == f"{_W}instrText":
             if codes and (code := codes[-1]) is not None:
                 code.append(element.text or "")
@@ -505,9 +534,10 @@ def _is_drop_cap(paragraph: Element) -> bool:
 
 def _runs(element: Element, inner: list[Element]) -> Iterator[str]:
     """The print of a paragraph, without deleted text; what stands in text boxes is set aside."""
+    has_newer = element.find(_CHOICE) is not None
     for child in element:
         tag = child.tag.removeprefix(_W)
-        if child.tag == _FALLBACK or child.tag in _DELETED:
+        if child.tag == _FALLBACK and has_newer or child.tag in _DELETED:
             continue
         if tag == "t":
             yield child.text or ""

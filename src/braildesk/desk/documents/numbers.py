@@ -41,7 +41,7 @@ _PREFIXES = {
 _AROUND = frozenset(
     {f"{_W}{name}" for name in ("fldSimple", "customXml", "smartTag", "ins", "moveTo")}
     | {f"{_W}{name}" for name in ("bdo", "dir", "sdt", "sdtContent")}
-    | {f"{_MC}AlternateContent", f"{_MC}Choice", f"{_MATH}oMathPara"}
+    | {f"{_MC}AlternateContent", f"{_MC}Choice", _FALLBACK, f"{_MATH}oMathPara"}
 )
 #: What of a run is in print, unless it is within the code of a field.
 _PRINT = frozenset(
@@ -114,7 +114,7 @@ def with_numbers(data: bytes, bullet: str) -> tuple[bytes, list[Loss]]:
                     return data, []
                 part = _numbered(part, root, iter(lists.labels(root)))
                 losses += word_print.signs(root)
-                losses += word_print.italics(root, styles)
+                losses += word_print.emphasized(root, styles)
                 roots.append(root)
             elif name == _STYLES:
                 part = _restyled(part, styles)
@@ -133,7 +133,7 @@ def _restyled(part: bytes, styles: Element) -> bytes:
 
 def _numbered(part: bytes, root: Element, labels: Iterator[str]) -> bytes:
     """A part with what stands at the front of each paragraph, and what Word shows beside its text."""
-    unseen = _in_codes(root) | word_print.replaced(root)
+    unseen = _in_codes(root) | word_print.replaced(root) | _for_older(root)
     ahead = word_print.texts_ahead(root)
     has_titles = b"tblCaption" in part
     paragraphs = root.iter(f"{_W}p") if has_titles else ()
@@ -162,6 +162,18 @@ def _numbered(part: bytes, root: Element, labels: Iterator[str]) -> bytes:
         _PREFIXES,
     )
     return rewritten(part, how)
+
+
+def _for_older(root: Element) -> frozenset[int]:
+    """The places of what is for older programs, beside which something else is for newer ones."""
+    found = {
+        id(older)
+        for both in root.iter(f"{_MC}AlternateContent")
+        if both.find(f"{_MC}Choice") is not None
+        for older in both.iterfind(_FALLBACK)
+    }
+    places = enumerate(root.iter()) if found else ()
+    return frozenset(place for place, each in places if id(each) in found)
 
 
 def _in_codes(root: Element) -> frozenset[int]:
@@ -193,10 +205,10 @@ def _in_codes(root: Element) -> frozenset[int]:
 
 
 def _is_left_out(name: str, attributes: Sequence[str]) -> bool:
-    """Whether an element is for older programs, has pandoc put a paragraph before another table, or a row
-    before those above it, or says how many columns a table has, which is said anew."""
+    """Whether an element has pandoc put a paragraph before another table, or a row before those above it, or
+    says how many columns a table has, which is said anew."""
     is_title = name == f"{_W}pStyle" and "Caption" in attributes
-    return is_title or name in (_FALLBACK, f"{_W}tblGrid", f"{_W}tblHeader")
+    return is_title or name in (f"{_W}tblGrid", f"{_W}tblHeader")
 
 
 @dataclass(frozen=True, slots=True)

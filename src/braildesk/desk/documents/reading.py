@@ -59,6 +59,8 @@ class LossKind(Enum):
     UNSEEN = auto()
     ABSENT = auto()
     EMBEDDED = auto()
+    OTHER_FILE = auto()
+    COMPUTED = auto()
 
 
 #: How a text is parted that is too long, from the best way on.

@@ -61,7 +61,11 @@ def italics(root: Element, *others: Element) -> Iterator[Loss]:
 def hiding(*roots: Element) -> Iterator[str]:
     """The names of the styles of some parts that hide text, themselves or by one that they are based on."""
     known = {
-        style.get(f"{_STYLE}name", ""): style
+        style.get(f"{_STYLE}name", ""): (
+            # each is looked through once, though many may be based on it
+            [each.get(_DISPLAY) for each in style if each.get(_DISPLAY)],
+            style.get(_PARENT, ""),
+        )
         for root in roots
         for style in root.iter(f"{_STYLE}style")
     }
@@ -70,11 +74,10 @@ def hiding(*roots: Element) -> Iterator[str]:
         for _ in range(_DEEPEST):
             if base not in known:
                 break
-            said = [each.get(_DISPLAY) for each in known[base] if each.get(_DISPLAY)]
+            said, base = known[base]
             if said:
                 yield from [name] if "none" in said else ()
                 break
-            base = known[base].get(_PARENT, "")
 
 
 class Styles:

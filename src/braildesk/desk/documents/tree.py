@@ -110,7 +110,7 @@ class _Line:
     def losses(self) -> Iterator[Loss]:
         text = self.text
         for what, start, stop in self.spans:
-            yield Loss(what, plain(text[start:stop]), _around(text, start, stop))
+            yield Loss(what, plain(text[start:stop]), words_around(text, start, stop))
 
 
 class _Reader:
@@ -244,7 +244,7 @@ class _Reader:
         line.end_tags()
         for loss in line.losses():
             # a picture that stands alone is found by the words before it
-            around = loss.around or _around(before, len(before), len(before))
+            around = loss.around or words_around(before, len(before), len(before))
             self.losses.append(replace(loss, around=around))
         text = line.text if level is None else _LINE_END.sub(" ", line.text)
         self._lines(text, level=level)
@@ -284,8 +284,8 @@ class _Reader:
             self.blocks(title)
         if not self._reading.notes_at_end:
             self.put_notes()
-        first = next((text for text in texts if text), "")
-        self.losses.append(Loss(LossKind.TABLE, first, first))
+        if first := next((text for text in texts if text), ""):
+            self.losses.append(Loss(LossKind.TABLE, first, first))
 
     def _rows(self, rows: Sequence[Any]) -> Iterator[str]:
         """The text of each row, in which a cell that goes on from the rows above has an empty place."""
@@ -484,7 +484,7 @@ def _passed(
     return column
 
 
-def _around(text: str, start: int, stop: int) -> str:
+def words_around(text: str, start: int, stop: int) -> str:
     """The words around a place of a text, whole words of at most so many characters on each side."""
     before = text[max(start - _AROUND - 1, 0) : start]
     after = text[stop : stop + _AROUND + 1]

@@ -28,8 +28,8 @@ def notes_again(roots: Sequence[Element]) -> Iterator[Loss]:
             if note.tag == f"{_W}{kind}" and uses[note.get(f"{_W}id")] > 1:
                 yield _loss(LossKind.NOTE_AGAIN, note)
     for paragraph in (each for each in kept if each.tag == f"{_W}p"):
-        for _ in _FIELD.findall("".join(_codes(paragraph))):
-            yield _loss(LossKind.NOTE_NUMBER, paragraph)
+        if found := _FIELD.findall("".join(_codes(paragraph))):
+            yield from [_loss(LossKind.NOTE_NUMBER, paragraph)] * len(found)
 
 
 def _kept(element: Element) -> Iterator[Element]:

@@ -9,17 +9,19 @@ that a row may begin at a later column than others.
 import re
 from bisect import bisect_right
 from collections.abc import Iterator, Mapping, Sequence
+from dataclasses import dataclass
 from itertools import accumulate
 from xml.etree.ElementTree import Element
 from xml.sax.saxutils import escape, quoteattr
 
+from braildesk.desk.documents.field_codes import shown_of_code
 from braildesk.desk.documents.reading import Loss, LossKind, plain, whole
 from braildesk.desk.documents.table_places import Places
 
 _W = "{http://schemas.openxmlformats.org/wordprocessingml/2006/main}"
 _W14 = "{http://schemas.microsoft.com/office/word/2010/wordml}"
 _RUN, _RUBY = f"{_W}r", f"{_W}ruby"
-_DESCRIPTION = f"{_W}tblDescription"
+_DESCRIPTION, _FIELD = f"{_W}tblDescription", f"{_W}fldSimple"
 _TABLE, _ROW, _CELL = f"{_W}tbl", f"{_W}tr", f"{_W}tc"
 _OFF = ("0", "false", "off")
 #: Emphasis of which pandoc knows nothing, each with one that it knows, and what says that there is none.
@@ -47,7 +49,21 @@ _TEXTS = frozenset(
     for name in ("r", "t", "lastRenderedPageBreak", "proofErr", "bookmarkStart")
 ) | {f"{_W}bookmarkEnd"}
 #: The names of the styles of headings, whose emphasis is that of headings.
-_HEADING = re.compile("heading [1-9]", re.IGNORECASE)
+_HEADING = re.compile("heading [1-9]|title$", re.IGNORECASE)
+#: The style of the heads of columns, which are bold as headings are.
+_TABLE_HEAD = re.compile("table heading", re.IGNORECASE)
+#: The emphasis of whole paragraphs by their styles.
+_BOLD = "b"
+_WHOLE = ("i", _BOLD, "caps", "smallCaps")
+#: Words that Word computes where they stand: the number of a page, and parts of a date.
+_COMPUTED = (
+    f"{_W}pgNum",
+    *(
+        f"{_W}{of}{form}"
+        for of in ("day", "month", "year")
+        for form in ("Long", "Short")
+    ),
+)
 #: The most columns of a table that are written.
 _WIDEST = 1_000
 #: How many styles are looked at of those that one is based on.
@@ -62,6 +78,15 @@ _PLACES = re.compile("[ -\xff\uf020-\uf0ff]+")
 _SHOWN = 60
 
 
+@dataclass(frozen=True, slots=True)
+class _Style:
+    """A style of paragraphs: the one that it is based on, and what it says of emphasis, if it does."""
+
+    is_heading: bool
+    base: str
+    said: Mapping[str, bool]
+
+
 def texts_ahead(root: Element) -> dict[int, str]:
     """What stands in XML ahead of elements of a part, by their places in it; and see `replaced`."""
     found: dict[int, str] = {}
@@ -69,6 +94,8 @@ def texts_ahead(root: Element) -> dict[int, str]:
     emphasis = emphasis_ahead(root)
     lettered = dict(_lettered(root))
     for place, element in enumerate(root.iter()):
+        if element.tag == _FIELD and has_no_result(element):
+            found[place] = _field(element.get(f"{_W}instr", ""))
         if element.tag == _DESCRIPTION:
             # pandoc has it right after the title of the table
             value = element.get(f"{_W}val", "")
@@ -91,6 +118,18 @@ def texts_ahead(root: Element) -> dict[int, str]:
             base, reading = (_print(element, name) for name in ("rubyBase", "rt"))
             found[place] = _text(f"{base}({reading})" if reading else base)
     return found
+
+
+def _field(code: str) -> str:
+    """A field whose code stands in the text, of which pandoc shows nothing."""
+    front, end = (f'<w:fldChar w:fldCharType="{kind}"/>' for kind in ("begin", "end"))
+    text = f"<w:instrText>{escape(code)}</w:instrText>"
+    return f"<w:r>{front}{text}{end}</w:r>" if shown_of_code(code) else ""
+
+
+def has_no_result(field: Element) -> bool:
+    """Whether a field that has its code as an attribute has no text."""
+    return not any(each.text for each in field.iter(f"{_W}t"))
 
 
 def emphasis_ahead(root: Element) -> dict[int, str]:
@@ -157,43 +196,85 @@ def signs(root: Element) -> Iterator[Loss]:
     }
     gone = {id(run) for tag in GONE for each in root.iter(tag) for run in each.iter()}
     symbols = _symbols(root)
+    fronts = _Fronts()
     for run in root.iter(_RUN):
         if id(run) in around and id(run) not in gone:
-            texts = [each.text or "" for each in around[id(run)].iter(f"{_W}t")]
-            words = plain("".join(texts))[:_SHOWN]
             its = [*map(_sign, _boxes(run)), *(symbols.get(id(each)) for each in run)]
-            yield from (Loss(LossKind.BOX, sign, words) for sign in its if sign)
+            signs = [each for each in its if each]
+            words = fronts.of(around[id(run)]) if signs else ""
+            yield from (Loss(LossKind.BOX, sign, words) for sign in signs)
 
 
-def italics(root: Element, styles: Element) -> Iterator[Loss]:
-    """The paragraphs of a part that are in italics as a whole by their style, but headings."""
-    known = {each.get(f"{_W}styleId", ""): each for each in styles.iter(f"{_W}style")}
-    italic = {name for name in known if _is_italic(name, known)}
-    if not italic:
+def computed(root: Element) -> Iterator[Loss]:
+    """The words of a part that Word computes where they stand, each by the first words of its paragraph."""
+    gone = {id(each) for tag in GONE for part in root.iter(tag) for each in part.iter()}
+    found = {id(each) for tag in _COMPUTED for each in root.iter(tag)} - gone
+    fronts = _Fronts()
+    for paragraph in root.iter(f"{_W}p") if found else ():
+        for each in paragraph.iter():
+            if id(each) in found:
+                yield Loss(LossKind.COMPUTED, "", fronts.of(paragraph))
+                found.remove(id(each))
+
+
+class _Fronts:
+    """The first words of paragraphs, each of which is read once."""
+
+    def __init__(self) -> None:
+        self._known: dict[int, str] = {}
+
+    def of(self, paragraph: Element) -> str:
+        """The first words of a paragraph."""
+        if id(paragraph) not in self._known:
+            texts = (each.text or "" for each in paragraph.iter(f"{_W}t"))
+            self._known[id(paragraph)] = plain("".join(texts))[:_SHOWN]
+        return self._known[id(paragraph)]
+
+
+def emphasized(root: Element, styles: Element) -> Iterator[Loss]:
+    """The paragraphs of a part that are in italics, bold or capitals as a whole by their style, but headings."""
+    known = {
+        each.get(f"{_W}styleId", ""): _style(each) for each in styles.iter(f"{_W}style")
+    }
+    their = {name for name in known if _is_emphasized(name, known)}
+    if not their:
         return
     gone = {id(each) for tag in GONE for part in root.iter(tag) for each in part.iter()}
     for paragraph in root.iter(f"{_W}p"):
         style = paragraph.find(f"{_W}pPr/{_W}pStyle")
-        if style is None or style.get(f"{_W}val") not in italic:
+        if style is None or style.get(f"{_W}val") not in their:
             continue
         words = plain("".join(each.text or "" for each in paragraph.iter(f"{_W}t")))
         if words and id(paragraph) not in gone:
             yield Loss(LossKind.EMPHASIS, words[:_SHOWN], words[:_SHOWN])
 
 
-def _is_italic(name: str, known: Mapping[str, Element]) -> bool:
-    """Whether a style of paragraphs, or the next one it is based on that says so, has italics."""
-    said: Element | None = None
+def _style(style: Element) -> _Style:
+    """What a style says, whose parts are looked through once, though many may be based on it."""
+    named, base = (
+        "" if each is None else each.get(f"{_W}val", "")
+        for each in (style.find(f"{_W}{tag}") for tag in ("name", "basedOn"))
+    )
+    said: dict[str, bool] = {}
+    for tag in _WHOLE:
+        if (own := style.find(f"{_W}rPr/{_W}{tag}")) is not None:
+            said[tag] = own.get(f"{_W}val") not in _OFF
+    if _TABLE_HEAD.fullmatch(named):
+        said[_BOLD] = False
+    return _Style(_HEADING.match(named) is not None, base, said)
+
+
+def _is_emphasized(name: str, known: Mapping[str, _Style]) -> bool:
+    """Whether a style of paragraphs, or the next one it is based on that says so, has such emphasis."""
+    said: dict[str, bool] = {}
     for _ in range(_DEEPEST):
         if name not in known:
             break
-        named, base = (known[name].find(f"{_W}{each}") for each in ("name", "basedOn"))
-        if named is not None and _HEADING.match(named.get(f"{_W}val", "")):
+        if known[name].is_heading:
             return False
-        own = known[name].find(f"{_W}rPr/{_W}i")
-        said = own if said is None else said
-        name = "" if base is None else base.get(f"{_W}val", "")
-    return said is not None and said.get(f"{_W}val") not in _OFF
+        said = {**known[name].said, **said}
+        name = known[name].base
+    return any(said.values())
 
 
 def _symbols(root: Element) -> dict[int, str]:

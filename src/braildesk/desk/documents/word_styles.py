@@ -11,24 +11,28 @@ _DEEPEST = 50
 
 def hiding(styles: Element) -> Iterator[str]:
     """The names of the styles that hide text, themselves or by one that they are based on."""
-    known = {each.get(f"{_W}styleId", ""): each for each in styles.iter(f"{_W}style")}
+    known = {
+        # each is looked through once, though many may be based on it
+        each.get(f"{_W}styleId", ""): (_is_hidden(each), _named(each, "basedOn"))
+        for each in styles.iter(f"{_W}style")
+    }
     for name in known:
         base = name
         for _ in range(_DEEPEST):
             if base not in known:
                 break
-            is_hidden = _is_hidden(known[base])
+            is_hidden, base = known[base]
             if is_hidden is not None:
                 yield from [name] if is_hidden else ()
                 break
-            base = _named(known[base], "basedOn")
 
 
 def hidden_runs(root: Element, styles: Collection[str]) -> Iterator[Element]:
     """The runs of a part that are hidden, by some styles too."""
     around = {
-        id(run): _named(paragraph, f"pPr/{_W}pStyle") in styles
+        id(run): is_hidden
         for paragraph in root.iter(f"{_W}p")
+        for is_hidden in [_named(paragraph, f"pPr/{_W}pStyle") in styles]
         for run in paragraph.iter(f"{_W}r")
     }
     for run in root.iter(f"{_W}r"):
@@ -38,6 +42,14 @@ def hidden_runs(root: Element, styles: Collection[str]) -> Iterator[Element]:
             is_hidden = by_its_own or around.get(id(run), False)
         if is_hidden:
             yield run
+
+
+def hidden_rows(root: Element) -> Iterator[Element]:
+    """The rows of tables of a part that are hidden."""
+    for row in root.iter(f"{_W}tr"):
+        said = row.find(f"{_W}trPr/{_W}hidden")
+        if said is not None and said.get(f"{_W}val") not in _OFF:
+            yield row
 
 
 def _named(element: Element, path: str) -> str:
