@@ -567,6 +567,7 @@ _NO_DOCUMENT = {
     WhyNot.ENCRYPTED: "is encrypted. Save it without a password, and import it again",
     WhyNot.COPY_PROTECTED: "is protected against copying. Ask the publisher for a file that isn't",
     WhyNot.BOOK: "is a book of braildesk, and no manuscript",
+    WhyNot.STYLES: "is a template that has styles and no text",
 }
 
 

@@ -48,6 +48,7 @@ class WhyNot(Enum):
     ENCRYPTED = auto()
     COPY_PROTECTED = auto()
     BOOK = auto()
+    STYLES = auto()
 
 
 class NoDocument(UnreadableText):
@@ -137,6 +138,8 @@ _HIDDEN_FONTS = frozenset(
 )
 _ENCRYPTED_FLAG, _UTF8_FLAG = 1, 0x800
 _TAG = b"<"
+#: The part that a text in ODT has, and the part of its styles, which is all that some templates have.
+_ODT_TEXT, _ODT_STYLES = "content.xml", "styles.xml"
 #: The parts by which a container is known, of which a folder around all others is found.
 _KNOWN = ("mimetype", "META-INF/container.xml", "[Content_Types].xml")
 
@@ -333,6 +336,8 @@ def _judge_open(
 ) -> None:
     """`NoDocument` if the parts of a container are encrypted each by itself."""
     manifest, rights = "META-INF/manifest.xml", "META-INF/encryption.xml"
+    if kind is ManuscriptKind.ODT and _ODT_TEXT not in names and _ODT_STYLES in names:
+        raise NoDocument(WhyNot.STYLES)
     if kind is ManuscriptKind.ODT and manifest in names:
         if _is_encrypted(part_of(container, manifest)):
             raise NoDocument(WhyNot.ENCRYPTED)
