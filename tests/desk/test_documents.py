@@ -2317,6 +2317,32 @@ def test_sheets_for_print_to_which_a_page_alone_leads_are_said_not_to_be_read() 
     ]
 
 
+def test_words_that_a_sheet_emphasizes_are_noted_with_those_around_them() -> None:
+    body = f"<p>The moon <span class=a>is far</span> away tonight<p class=a>{'Whole ' * 20}"
+    page = f"<html><style>.a {{ font-variant: small-caps; font-style: italic }}</style>{body}</html>"
+    found = read_document(page.encode(), ManuscriptKind.HTML)
+    around = {each.words: each.around for each in found.losses}
+    assert around["is far"] == "The moon is far away tonight"
+
+
+def test_a_choice_that_shows_a_label_has_that_too_unless_it_is_the_same() -> None:
+    choices = "<option label='One &amp; two'>x<option label='Four'> Four </option><option label=Five></option>"
+    page = f"<html><p>In <select>{choices}</select></html>"
+    found = read_document(page.encode(), ManuscriptKind.HTML)
+    assert found.texts == ["In One & two x Four Five"]
+    assert not found.missing
+
+
+def test_a_template_without_a_text_is_not_said_to_be_damaged() -> None:
+    made = BytesIO()
+    with zipfile.ZipFile(made, "w") as container:
+        container.writestr("mimetype", f"{ODT}-template")
+        container.writestr("styles.xml", "<styles/>")
+    with pytest.raises(NoDocument) as found:
+        kind_of("a.ott", made.getvalue())
+    assert unreadable(found.value) == "is a template that has styles and no text"
+
+
 def test_what_is_important_goes_before_all_that_is_not() -> None:
     sheet = (
         "p { display: none ! important } #a { display: block } i { display: none }"
@@ -2370,7 +2396,7 @@ def test_words_that_a_sheet_alone_emphasizes_or_raises_are_noted() -> None:
     )
     page = f"<html><head><style>{sheet}</style></head><body>{body}</body></html>"
     found = read_document(page.encode(), ManuscriptKind.HTML)
-    by_sheet = [each for each in found.losses if each.words == each.around]
+    by_sheet = contents.contents_of(page.encode(), ManuscriptKind.HTML).losses
     emphases = [e.words for e in by_sheet if e.what is LossKind.EMPHASIS]
     assert emphases == "one two seven eight nine ten thirteen".split()
     assert lost(found, LossKind.SUPERSCRIPT) == ["4"]

@@ -40,7 +40,6 @@ from braildesk.desk.documents.markup import (
     Tags,
     characters_of_page,
     field_words,
-    group_words,
     words_beside,
 )
 from braildesk.desk.documents.notes import leads_back
@@ -180,7 +179,7 @@ class Contents:
             self.lose(LossKind.JOINED, words)
         for words in page.hidden:
             self.lose(LossKind.HIDDEN, words)
-        self.losses += page.emphasis.found
+        self.losses += page.emphasized
         for words in page.restyled:
             self.numbers.append(Loss(LossKind.LIST, words, words))
         self.note_numbers(page.counted)
@@ -760,7 +759,7 @@ class _Html(Tags):
         #: How many elements are open around each that stands on lines of its own by its style alone; and before which
         #: piece of which text such a one begins or ends.
         self._apart: list[int] = []
-        self.emphasis = PageEmphasis()
+        self._emphasis = PageEmphasis()
         self._seams: list[tuple[int, int]] = []
         #: The element that leads back from a note, and how many of its name are open in it.
         self._back, self._open = "", 0
@@ -809,6 +808,11 @@ class _Html(Tags):
             yield from self._firsts(each.unsure for each in lists)
 
     @property
+    def emphasized(self) -> Iterator[Loss]:
+        """What its sheets alone emphasize, raise or lower."""
+        return self._emphasis.losses(self._texts, _SEAM)
+
+    @property
     def has_more_rules(self) -> bool:
         """Whether its sheets have more rules than were read, or tried for all of its elements."""
         return self._sheet.is_cut
@@ -834,7 +838,7 @@ class _Html(Tags):
             self._back, self._open = tag, 1
         self._describe(tag, attrs)
         self._part(tag)
-        if words := group_words(tag, dict(attrs)):
+        if words := self.group_words(tag, dict(attrs)):
             self._add(f"{words} ")
         if tag == "a" and "#" in (dict(attrs).get("href") or ""):
             self._add(_SEAM)
@@ -933,7 +937,7 @@ class _Html(Tags):
         text = len(self._texts) - 1
         place = (text + 1, 0) if tag in BLOCKS else (text, len(self._texts[text]))
         element = Emphasized(tag, shown, own, is_in_link)
-        self.emphasis.begin(element, len(self._path) - 1, place)
+        self._emphasis.begin(element, len(self._path) - 1, place)
 
     def _leave(self, tag: str) -> None:
         left = None if self._tags[tag] else tag
@@ -943,7 +947,7 @@ class _Html(Tags):
         while self._apart and len(self._path) <= self._apart[-1]:
             self._apart.pop()
             self._seams.append((len(self._texts) - 1, len(self._texts[-1])))
-        self.emphasis.end(len(self._path), self._texts, _SEAM)
+        self._emphasis.end(len(self._path), self._texts, _SEAM)
         if self._unshown and len(self._path) <= self._unshown[0]:
             _, text, piece = self._unshown
             self._unshown = None

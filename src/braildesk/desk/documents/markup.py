@@ -4,9 +4,11 @@ import codecs
 import re
 from collections.abc import Iterable, Mapping
 from contextlib import suppress
+from html import unescape
 from html.parser import HTMLParser
 
 from braildesk.desk.documents.kinds import NoDocument, WhyNot
+from braildesk.desk.documents.reading import plain
 from braildesk.desk.manuscript import decoded
 
 #: Where a page says in what it is encoded; else its front does, or it is of an older system.
@@ -55,8 +57,11 @@ class Tags(HTMLParser):
     #: How many tags and comments of a page nothing may end.
     _MOST_OPEN = 20
     _open_count = 0
+    #: Where the tag begins that was found.
+    _front = 0
 
     def parse_starttag(self, i: int) -> int:
+        self._front = i
         return self._ended(super().parse_starttag(i))
 
     def parse_endtag(self, i: int) -> int:
@@ -77,6 +82,16 @@ class Tags(HTMLParser):
             return super().parse_marked_section(i, bool(report))
         return self.parse_bogus_comment(i)
 
+    def group_words(self, tag: str, attributes: Mapping[str, str | None]) -> str:
+        """The words that stand above some of those from which there is to choose in a form, or in place of one."""
+        words = (attributes.get("label") or "").strip()
+        if tag != "option" or not words:
+            return words if tag == "optgroup" else ""
+        start = self._front + len(self.get_starttag_text() or "")
+        stop = self.rawdata.find("<", start)
+        own = self.rawdata[start : stop if stop >= 0 else None]
+        return "" if plain(unescape(own)) == plain(words) else words
+
     def _ended(self, end: int) -> int:
         """Where a tag ends, counted if that is nowhere."""
         self._open_count += end < 0
@@ -94,11 +109,6 @@ def field_words(tag: str, attributes: Mapping[str, str | None]) -> str:
     names += {"password": ["placeholder"], "image": ["alt"]}.get(kind, [])
     shown = ((attributes.get(name) or "").strip() for name in names)
     return next(filter(None, shown), "")
-
-
-def group_words(tag: str, attributes: Mapping[str, str | None]) -> str:
-    """The words that stand above some of those from which there is to choose in a form."""
-    return (attributes.get("label") or "").strip() if tag == "optgroup" else ""
 
 
 def words_beside(tag: str, attributes: Mapping[str, str | None]) -> str:

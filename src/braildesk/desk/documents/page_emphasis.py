@@ -6,6 +6,7 @@ from dataclasses import dataclass
 
 from braildesk.desk.documents.markup import BLOCKS, PARTED
 from braildesk.desk.documents.reading import Loss, LossKind, plain
+from braildesk.desk.documents.tree import words_around
 
 #: What is emphasized by itself, or stands above or below the line, as pandoc knows.
 _KNOWN = frozenset("b del em i ins s strong strike sub sup u".split())
@@ -23,6 +24,8 @@ _EMPHASIZED = {
 _PLACES = {"super": LossKind.SUPERSCRIPT, "sub": LossKind.SUBSCRIPT}
 #: How many characters are shown of such words, and how many pieces are looked at for them.
 _SHOWN = 60
+#: How many characters of a piece are looked at, which may be the same for many elements.
+_FRONT = 200
 
 
 @dataclass(frozen=True, slots=True)
@@ -41,7 +44,8 @@ class PageEmphasis:
     """What is found of such words while a page is read."""
 
     def __init__(self) -> None:
-        self.found: list[Loss] = []
+        #: What, its words, and the text and the piece of that with which it begins.
+        self._found: list[tuple[LossKind, str, int, int]] = []
         #: What is open: how many elements are around it, and its first text and piece.
         self._open: list[tuple[int, LossKind, int, int]] = []
 
@@ -54,11 +58,23 @@ class PageEmphasis:
         """Notes that no more elements are open than so many; the seams of texts aren't shown."""
         while self._open and depth <= self._open[-1][0]:
             _, what, text, piece = self._open.pop()
-            pieces = texts[text][piece : piece + _SHOWN]
+            pieces = [each[:_FRONT] for each in texts[text][piece : piece + _SHOWN]]
             is_number = what is not LossKind.EMPHASIS and seam in pieces
             words = plain("".join(pieces).replace(seam, "").replace("\n", " "))
             if words and not is_number:
-                self.found.append(Loss(what, words[:_SHOWN], words[:_SHOWN]))
+                self._found.append((what, words[:_SHOWN], text, piece))
+
+    def losses(self, texts: Sequence[Sequence[str]], seam: str) -> Iterator[Loss]:
+        """What was found, each with the words around it in its text."""
+        for what, words, text, piece in self._found:
+            first = max(piece - _SHOWN, 0)
+            outer = [each[-_FRONT:] for each in texts[text][first:piece]]
+            inner = [each[:_FRONT] for each in texts[text][piece : piece + _SHOWN]]
+            before, its = ("".join(each).replace(seam, "") for each in (outer, inner))
+            start = len(before) + len(its) - len(its.lstrip())
+            around = words_around(before + its, start, start + len(words))
+            is_front = not before.strip() and len(words) == _SHOWN
+            yield Loss(what, words, words if is_front else around)
 
 
 def _lost(element: Emphasized) -> Iterator[LossKind]:

@@ -26,7 +26,6 @@ from braildesk.desk.documents.markup import (
     Tags,
     characters_of_page,
     field_words,
-    group_words,
 )
 from braildesk.desk.documents.package import Package
 from braildesk.desk.documents.quotations import QUOTATION, Quotations
@@ -173,7 +172,7 @@ class _Rewriting(Tags):
         after = ""
         if tag in _NAMELESS and (name := dict(attrs).get("id")):
             after = f'<span id="{escape(name)}"></span>'
-        elif words := group_words(tag, dict(attrs)):
+        elif words := self.group_words(tag, dict(attrs)):
             after = f" {escape(words)} "
         self._rewrite(tag, attrs, after + self._before_reading(tag))
         if tag == QUOTATION and not self._templates:
