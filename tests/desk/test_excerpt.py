@@ -5,7 +5,13 @@ import pytest
 from hypothesis import given
 from hypothesis import strategies as st
 
-from braildesk.text.excerpt import ending, excerpt, excerpt_lines, opening
+from braildesk.text.excerpt import (
+    ending,
+    excerpt,
+    excerpt_lines,
+    opening,
+    opening_after,
+)
 from braildesk.text.wrapping import columns
 
 TEXT = "On 20 July 1969 two men stood on the moon."
@@ -39,6 +45,12 @@ def test_a_text_that_does_not_fit_is_cut_at_a_blank() -> None:
     assert opening("The moon is far", 12) == "The moon is…"
     assert ending("The moon is far", 12) == "…moon is far"
     assert opening("moonlight", 5) == "moon…"
+
+
+def test_after_a_head_stands_at_least_the_front_of_a_word() -> None:
+    assert opening_after("No. 3: ", "The moon", 12) == "No. 3: The…"
+    assert opening_after("No. 3: ", "moonlight", 12) == "No. 3: moon…"
+    assert opening_after("No. 3: ", "moon", 8) == "No. 3:…"
 
 
 def test_no_word_beside_others_is_cut() -> None:

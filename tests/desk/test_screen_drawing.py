@@ -470,6 +470,18 @@ def test_a_long_sentence_covers_the_last_lines_and_the_print_stays() -> None:
     assert after[7].startswith("No, this can't be done.")
 
 
+def test_of_a_first_word_that_is_longer_than_its_line_the_front_is_listed() -> None:
+    openings = {1: Opening("m" * 92 + " is long.", 0), 2: Opening("m" * 9, 0)}
+    for width, seen in [
+        (90, f"body: {'m' * 75}…"),
+        (18, "body: mmm…"),
+        (16, "body: m…"),
+        (15, "body:…"),
+    ]:
+        state = replace(STATE, size=Size(width, 24), openings=openings)
+        assert draw(state).texts()[1] == f">    1 {seen}"
+
+
 def test_a_quiet_screen_has_neither_list_nor_keys_nor_the_braille_of_what_is_typed() -> (
     None
 ):

@@ -123,6 +123,14 @@ def opening(text: str, width: int) -> str:
     return "".join(_fitting(sequences(text), width, size_of))
 
 
+def opening_after(head: str, text: str, width: int) -> str:
+    """A head and the first words of a text, in a line: of a word without room its front at least."""
+    room = width - columns(head)
+    if room > len(_CUT):
+        return head + opening(text, room)
+    return opening(head + text, width)
+
+
 def ending(text: str, width: int) -> str:
     """The last words of a text, in a line of a width."""
     size_of = measure(text)

@@ -10,7 +10,7 @@ from braildesk import NotFound
 from braildesk.desk.marks import MarkOfBook
 from braildesk.protocol.requests import BY_NAME, REQUESTS, Command
 from braildesk.text.characters import visible
-from braildesk.text.excerpt import excerpt_lines, opening
+from braildesk.text.excerpt import excerpt_lines, opening_after
 from braildesk.text.spans import find_spans
 
 from scribe.cli.commands import AT_PROMPT, COMMANDS, may_change, prompt_command
@@ -211,7 +211,7 @@ def _show_paragraph(talk: Conversation, parser: Parser, arguments: Namespace) ->
         start, stop = hand.mark.start, hand.mark.stop
         talk.console.show(*excerpt_lines(head, text, start, stop, width))
     else:
-        talk.console.show(opening(head + visible(text), width))
+        talk.console.show(opening_after(head, visible(text), width))
 
 
 def _which(talk: Conversation, paragraph: int, sought: str) -> int | None:

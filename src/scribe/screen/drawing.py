@@ -9,7 +9,7 @@ from braildesk.desk.readings import ParagraphReading
 from braildesk.text import limits
 from braildesk.text.cells import braille_ascii
 from braildesk.text.characters import code_and_name, visible
-from braildesk.text.excerpt import opening
+from braildesk.text.excerpt import opening, opening_after
 from braildesk.text.wrapping import columns, wrap
 
 from scribe.screen import pager, question_rows
@@ -197,7 +197,7 @@ def _listed(state: State, count: int) -> list[Line]:
         sign = ">" if place == state.chosen else " "
         words = its.words if its else ""
         head = f"{sign}{paragraph.id:>5} {', '.join(filter(None, flags))}: "
-        text = opening(head + visible(words), state.size.columns - 1)
+        text = opening_after(head, visible(words), state.size.columns - 1)
         lines.append((Run(text, CHOSEN if place == state.chosen else PLAIN),))
     return lines + [(Run(""),)] * (count - len(lines))
 
