@@ -968,7 +968,19 @@ def test_a_text_is_parted_at_a_sentence_at_a_blank_or_between_sequences() -> Non
     assert parted("“One two.” Three four", 14) == ("“One two.”", "Three four")
     assert parted("One. Two three four", 12) == ("One. Two", "three four")
     assert parted("abcdefgh", 3) == ("abc", "defgh")
-    assert parted("abe\u0301fgh", 3) == ("ab", "e\u0301fgh")
+    assert parted("abe\u0301\u0301fgh", 3) == ("ab", "e\u0301\u0301fgh")
+    # what no print can have is parted all the same
+    assert parted("a" + "\u0301" * 5_000, 4_000) == (
+        "a" + "\u0301" * 3_999,
+        "\u0301" * 1_001,
+    )
+
+
+def test_a_text_that_is_short_enough_in_normal_form_c_is_not_parted() -> None:
+    for text in ("One. Two three", "One. Two thre" + "e\u0301"):
+        assert parted(text, 14) == (text, "")
+    # each of these characters is two in normal form C
+    assert parted("\u0958 \u0958 \u0958", 5) == ("\u0958", "\u0958 \u0958")
 
 
 def test_a_lost_session_is_left_or_opened_again_and_nothing_else() -> None:

@@ -408,3 +408,19 @@ def test_the_session_may_end_before_it_is_shown_what_of_much_was_taken_back(
     desk.acting(stopped)
     assert desk.window.message.text.startswith("The session was ended by signal 9.")
     assert not desk.is_closed
+
+
+def test_a_long_text_is_parted_only_where_it_is_too_long(
+    desk: Desk, given: Answers
+) -> None:
+    way = "Er ging den langen Weg. "
+    end = "Und dann kam der Winter. Und dann das Ende. Und dann nichts mehr. "
+    text = (way * 160 + end * 6).rstrip()
+    assert len(text) == 4_235
+    given["choices"] = [0]
+    desk.act("new_after")
+    desk.window.print.put_in(text)
+    desk.act("keep")
+    desk.act("give_up")
+    *first, second = prints_of(desk)[1:3]
+    assert (f"{first[0]} {second}", len(prints_of(desk))) == (text, 5)

@@ -102,11 +102,19 @@ def composed(text: str) -> str:
 
 
 def parted(text: str, most: int) -> tuple[str, str]:
-    """A text in two, the first no longer than so many characters: at a sentence, or at a blank."""
-    front = text[:most]
+    """A text in two, the first no longer than so many characters: at a sentence, or at a blank.
+
+    They are counted in normal form C. Of a text that is no longer than that nothing is parted.
+    """
+    front = text
+    while (size := len(composed(front))) > most:
+        front = front[: len(front) * most // size]
+    if front == text:
+        return text.rstrip(), ""
     ends = [found.end() for found in re.finditer(_SENTENCE, front)]
     blank = front.rfind(" ") + 1
-    seam = max(each for each in seams(text) if each <= most)
+    # what no print can have is parted within a sequence
+    seam = max(s for s in seams(text) if s <= len(front)) or len(front)
     # a sentence that ends far from there would leave a short paragraph
     place = ends[-1] if ends and ends[-1] > most // 2 else blank or seam
     return text[:place].rstrip(), text[place:].lstrip()

@@ -140,6 +140,8 @@ class Typed:
         while rest:
             first, rest = parted(rest, most)
             lines.append(first)
+        if len(lines) < 2:
+            return False
         asked = (
             f"A paragraph has at most {most:,} characters, and this one has {len(text):,}."
             f" Shall it go on in a new paragraph from {quoted(lines[1])} on?"
