@@ -138,6 +138,45 @@ def test_a_text_whose_paragraph_an_older_file_lacks_is_said_to_be_a_new_paragrap
     assert sat.lines[1] == "It was dark."
 
 
+@pytest.mark.parametrize("is_waiting", [True, False])
+def test_that_the_print_was_changed_is_said_until_the_text_is_kept(
+    moon: Path, sit: Sit, is_waiting: bool
+) -> None:
+    said = "The print there has been changed since."
+    sat = sit(moon)
+    sat.press("down", "enter", "home", *"Oh, ", "escape")
+    sat.press("enter", "home", *"No ", "enter", "U")
+    assert said in asked(sat)
+    sat.press("y", "x")
+    sat.state = sat.desk.save_draft(sat.state)
+    draft = sat.desk.drafts.waiting()
+    if is_waiting:
+        sat.desk.close()
+        sat = sit(moon)
+        assert sat.desk.drafts.waiting() == draft
+    else:
+        sat.press("escape", "U")
+    assert said in asked(sat)
+    sat.press("y", "enter", "enter", "home", *"So ", "escape", "U")
+    assert said not in asked(sat)
+
+
+def test_a_text_that_is_typed_after_lines_were_left_out_is_one_of_the_print_as_it_is(
+    moon: Path, sit: Sit
+) -> None:
+    said = "The print there has been changed since."
+    sat = sit(moon)
+    sat.press("down", "enter")
+    paste(sat, "One.\nTwo.")
+    sat.press("escape", "escape", "enter", "home", *"No ", "enter", "U")
+    assert said in asked(sat)
+    sat.press("y", "escape", *"So ")
+    sat.press("escape", "U")
+    assert "So " in asked(sat) and said not in asked(sat)
+    sat.press("U")
+    assert said in asked(sat)
+
+
 def test_what_a_mark_goes_on_is_said_where_its_note_is_typed_further(
     moon: Path, sit: Sit
 ) -> None:

@@ -49,6 +49,8 @@ class Field:
     place: int = 0
     #: What is said of it as long as it is typed, where nothing else is said.
     said: str = ""
+    #: The print from which it was typed, if that was another one than it is now.
+    before: str | None = None
 
     @property
     def front(self) -> str:

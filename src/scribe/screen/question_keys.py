@@ -144,5 +144,5 @@ def _taken_up(asked: State, draft: Field) -> Step:
     # where they are given up, an edit is one of the print as it stands
     its = asked.reading if draft.purpose is Purpose.EDIT else None
     front = its.text if its else ""
-    typed = Field(draft.purpose, front, len(front))
+    typed = Field(draft.purpose, front, len(front), before=draft.before)
     return Step(replace(state, typed=typed, question=about_lines(typed.purpose, lines)))

@@ -482,6 +482,7 @@ def draft_of(state: State) -> Draft | None:
     before = state.reading.text if state.reading else ""
     if not text or typed.purpose is Purpose.EDIT and text == before:
         return None
+    before = before if typed.before is None else typed.before
     number = state.paragraph.id if state.paragraph else None
     cells = state.chosen_cells if typed.purpose is Purpose.NOTE else None
     aim = Aim[typed.purpose.name]

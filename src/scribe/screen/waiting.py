@@ -70,6 +70,9 @@ def _given_up(unsent: Unsent, state: State) -> State:
     draft = draft_of(state)
     fault = unsent.put_by(draft) if draft else ""
     if asked is not None and asked.lines:
+        its, field = state.reading, state.typed
+        if its is not None and field is not None and field.text == its.text:
+            state = replace(state, typed=replace(field, before=None))
         how = "Once nothing is typed any more, U brings them back."
         said = f"These lines aren't in the book. {how} {fault}".rstrip()
         return replace(state, question=None).saying(said)
@@ -126,17 +129,18 @@ def asked_about(
 ) -> State:
     """Asks whether a text that waits is taken up, at its paragraph."""
     places = [n for n, each in enumerate(state.book) if each.id == saved.paragraph]
-    changed = "" if places else without_paragraph(saved)
+    changed, before = "" if places else without_paragraph(saved), None
     if places:
         state = state.at(places[0])
         now = session.print_of(state.book[places[0]].id)
         changed = changed_since(saved, now)
+        before = saved.before if changed and saved.aim is Aim.EDIT else None
     amount = _amount(saved)
     sentence = (
         f"{what_for(saved)} {became}: {quoted(saved.joined)}.{amount}{moved}{changed}"
     )
     # on few lines no more than the end of a question is seen
-    field = replace(field_of(saved), said=changed.lstrip())
+    field = replace(field_of(saved), said=changed.lstrip(), before=before)
     if saved.aim is Aim.NOTE and places:
         state = _on_cells(session, state, saved)
         assert state.paragraph is not None and state.chosen_cells is not None
