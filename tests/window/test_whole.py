@@ -160,8 +160,8 @@ def test_each_answer_is_in_the_book_before_the_next_place_is_asked_about(
         "Place 2 of 4, paragraph 1: The Moo[o]n\nAfter: The Moo[oo]n",
     ]
     assert desk.window.message.text == (
-        "The session was ended by signal 9. The book was opened again: it is at version 6, and what"
-        " was changed last is in it."
+        "The session was ended by signal 9. The book was opened again: it is at version 6. What"
+        " was being done was stopped after 1 change."
     )
     assert prints_of(desk)[0] == "The Mooon"
     (note,) = Drafts(desk.path).changes()

@@ -170,17 +170,19 @@ class OpenBook:
             self._deeds = ()
         return found
 
-    def open_after(self, lost: Lost, begun: int) -> tuple[Contents | None, list[str]]:
+    def open_after(
+        self, lost: Lost, begun: int, shown: int | None = None
+    ) -> tuple[Contents | None, list[str]]:
         """Opens the book again after its session was lost, and says what the book has.
 
-        What was being done began at a version.
+        What was being done began at a version, and what it did may have been shown up to another.
         """
         if isinstance(lost, Displaced):
             # in what stands there now something else would be taken back
             self._deeds = ()
             return None, [lost.sentence]
         look = self._while_waiting
-        session, said = opened_again(self.path, lost, begun=begun, while_waiting=look)
+        session, said = opened_again(self.path, lost, shown, begun, look)
         if session is None:
             return None, said
         known = self._known

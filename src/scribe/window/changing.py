@@ -6,7 +6,7 @@ from contextlib import suppress
 from dataclasses import replace
 from functools import partial
 
-from braildesk import Refused
+from braildesk import Lost, Refused
 from braildesk.desk.change_all import (
     NotChanged,
     Passed,
@@ -144,12 +144,15 @@ class Changing:
             desk.say(_NOTHING)
             return
         places = _PlaceByPlace(desk, further, found)
-        if answer == 0 or places.are_rest_wanted():
-            self._do(further, places.open, places.count, places.lines)
-        elif not desk.is_ending:
-            for each in places.open:
-                places.count.add(Passed(each))
-            self._do(further, (), places.count, places.lines)
+        try:
+            if answer == 0 or places.are_rest_wanted():
+                self._do(further, places.open, places.count, places.lines)
+            elif not desk.is_ending:
+                for each in places.open:
+                    places.count.add(Passed(each))
+                self._do(further, (), places.count, places.lines)
+        except Lost as lost:
+            desk.lost_among(lost)
 
     def _found(self, wanted: Replacement) -> tuple[Further, Sequence[Proposal]]:
         """The places where the words stand."""

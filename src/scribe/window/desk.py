@@ -8,7 +8,7 @@ from contextlib import contextmanager, suppress
 from dataclasses import dataclass, replace
 from functools import partial
 from pathlib import Path
-from typing import TypeVar
+from typing import NoReturn, TypeVar
 
 from PyQt6.QtCore import QModelIndex, QSocketNotifier, QTimer
 from PyQt6.QtGui import QGuiApplication
@@ -1211,8 +1211,16 @@ class Desk:
         if not self.is_closed:
             self.asked(lambda: self.book.session.version())
 
-    def after_loss(self, lost: Lost) -> None:
-        """Opens the book again, and says what it has. What is typed stays typed."""
+    def lost_among(self, lost: Lost) -> NoReturn:
+        """Sees to a session that was lost among many changes, which are said where it stopped."""
+        self.after_loss(lost, lost.version)
+        raise _Told
+
+    def after_loss(self, lost: Lost, shown: int | None = None) -> None:
+        """Opens the book again, and says what it has. What is typed stays typed.
+
+        What was done may have been shown up to a version.
+        """
         self.unwatch()
         if self._is_opening_again:
             # it ended again before all was shown, and would at each further time
@@ -1221,7 +1229,8 @@ class Desk:
         self._is_opening_again = True
         try:
             begun = self.contents.version
-            found, said = self.work.result(lambda: self.book.open_after(lost, begun))
+            look = partial(self.book.open_after, lost, begun, shown)
+            found, said = self.work.result(look)
             if found is not None:
                 said.append(self.taken_again(found))
         except (DeskError, OSError) as failed:
