@@ -50,7 +50,7 @@ def test_each_deed_is_taken_back_the_last_first(book: OpenBook) -> None:
 def test_paragraphs_that_were_typed_together_are_taken_back_together(
     book: OpenBook,
 ) -> None:
-    book.typed_all(_types(["One.", "Two."]), lambda *_: None)
+    book.typed_all(_types(["One.", "Two."]), lambda *_: None, ())
     done = book.taken_back(lambda *_: None)
     whole = "Taken back: 2 paragraphs were typed, 4 to 5. The book keeps them, struck."
     assert done.said == whole
@@ -61,7 +61,7 @@ def test_of_paragraphs_one_of_which_is_refused_those_before_it_are_typed(
     book: OpenBook,
 ) -> None:
     with pytest.raises(NotAll) as part:
-        book.typed_all(_types(["One.", "#", "Two."]), lambda *_: None)
+        book.typed_all(_types(["One.", "#", "Two."]), lambda *_: None, ())
     assert part.value.done == 1
     assert [each.id for each in book.contents().paragraphs] == [1, 4, 2, 3]
 

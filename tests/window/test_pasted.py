@@ -97,6 +97,24 @@ def test_what_stands_after_the_caret_stays_after_pasted_paragraphs(
     assert its == (2 if place == 0 else 0)
 
 
+def test_a_paragraph_and_those_after_it_of_pasted_lines_are_taken_back_together(
+    desk: Desk, given: Answers
+) -> None:
+    desk.window.print.put_caret(4)
+    given["choices"] = [0, 0]
+    pasted(desk, Text="One.\nTwo.\nThree.")
+    assert prints_of(desk)[:3] == ["The One.", "Two.", "Three.Moon"]
+    desk.act("take_back")
+    assert given["said"][-1] == (
+        "The last action did this: paragraph 1 was corrected, and 2 paragraphs were typed, 4 to 5."
+        " Shall all of it be taken back?"
+    )
+    assert prints_of(desk)[0] == "The Moon"
+    assert [each.id for each in desk.contents.paragraphs if each.struck] == [4, 5]
+    desk.act("take_back")
+    assert desk.window.message.text.startswith("There is nothing that Ctrl+Z could")
+
+
 def test_what_stands_after_pasted_lines_that_are_joined_is_parted_from_them(
     desk: Desk, given: Answers
 ) -> None:

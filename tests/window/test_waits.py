@@ -418,7 +418,9 @@ def test_what_is_left_of_much_that_is_taken_back_is_asked_about(
 
     with opened(moment) as desk:
         commands = [partial(_typed, text) for text in ("One.", "Two.", "Three.")]
-        desk.asked(partial(desk.book.typed_all, commands, lambda *_: None))
+        desk.asked(
+            partial(desk.book.typed_all, commands, lambda *_: None, desk.book.deeds)
+        )
         with desk.failures():
             desk.asked(partial(desk.book.taken_back, report))
         desk.act("take_back")
@@ -533,7 +535,9 @@ def test_what_is_kept_of_lines_while_they_are_typed_grows_as_the_lines(
     kept: list[int] = []
 
     def typed_all(
-        commands: Sequence[object], report: Callable[[int, int | None], None]
+        commands: Sequence[object],
+        report: Callable[[int, int | None], None],
+        before: object,
     ) -> Done:
         for number in range(len(commands)):
             report(number, number + 4 if number else None)

@@ -143,6 +143,11 @@ class OpenBook:
         return self._by
 
     @property
+    def deeds(self) -> tuple[Deed, ...]:
+        """What was done in this window and wasn't taken back, the newest last."""
+        return self._deeds
+
+    @property
     def last_deed(self) -> Deed | None:
         """What was done last in this window."""
         return self._deeds[-1] if self._deeds else None
@@ -355,13 +360,14 @@ class OpenBook:
         self,
         commands: Sequence[Callable[[int | None], Command[Any]]],
         report: Callable[[int, int | None], None],
+        before: tuple[Deed, ...],
     ) -> Done:
         """Carries out commands, each with the number of the paragraph that was typed before it.
 
-        How many are done is reported before each, with that number. They are taken back together.
-        Raises `NotAll`.
+        How many are done is reported before each, with that number. They are taken back together,
+        with what was done since there were other deeds. Raises `NotAll`.
         """
-        before, newest, done = self._deeds, None, 0
+        newest, done = None, 0
         last: tuple[Command[Any], Any] | None = None
         cause: BaseException | None = None
         for command in commands:
@@ -374,9 +380,8 @@ class OpenBook:
                 break
             done += 1
             newest = getattr(last[1], "id", newest)
-        if done > 1:
-            whole = deeds.together(self._deeds[len(before) :])
-            self._deeds = (*before, whole)
+        if len(since := self._deeds[len(before) :]) > 1:
+            self._deeds = (*before, deeds.together(since))
         if cause is not None:
             raise NotAll(done, cause)
         assert last is not None

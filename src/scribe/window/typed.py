@@ -20,6 +20,7 @@ from scribe.window.book import Done, NotAll, NothingToTakeBack, ChosenParagraph
 from scribe.window.desk import CLOSED, Desk, New
 from scribe.window.dialogs import IsStopped, Say
 from scribe.window.fields import MOST_OF_ONE
+from scribe.words.deeds import Deed
 from scribe.words.drafts import (
     changed_since,
     not_kept,
@@ -347,6 +348,7 @@ class Typed:
             desk.keep_draft(desk.draft())
             raise Stop(said)
         self._wait(whole)
+        done = desk.book.deeds
         commands: list[Callable[[int | None], Command[Any]]] = []
         if new is not None:
             after = desk.after(new)
@@ -358,7 +360,7 @@ class Typed:
             self._corrected_first(reading, lines[0], others)
             self._wait(others)
         commands += [_typed_after(number, table, line) for line in lines[1:]]
-        self._typed_all(commands)
+        self._typed_all(commands, done)
 
     def _wait(self, lines: Draft | None) -> None:
         """Has lines wait until the book has them, which lacks them as it is now."""
@@ -386,9 +388,14 @@ class Typed:
             desk.show_done(done)
 
     def _typed_all(
-        self, commands: Sequence[Callable[[int | None], Command[Any]]]
+        self,
+        commands: Sequence[Callable[[int | None], Command[Any]]],
+        before: tuple[Deed, ...],
     ) -> None:
-        """Types the lines that wait, each of which waits until the book has it."""
+        """Types the lines that wait, each of which waits until the book has it.
+
+        They are taken back together, with what was done since there were other deeds.
+        """
         desk = self.desk
 
         def act(say: Say, is_stopped: IsStopped) -> Done:
@@ -399,7 +406,7 @@ class Typed:
                 if is_stopped():
                     raise Interrupted(signal.SIGINT)
 
-            return desk.book.typed_all(commands, report)
+            return desk.book.typed_all(commands, report, before)
 
         try:
             done = dialogs.long(desk.window, desk.work, "Paragraphs", act)
