@@ -212,6 +212,87 @@ def test_it_is_said_if_the_print_was_changed_since_a_text_was_given_up(
     desk.act("give_up")
 
 
+def test_that_the_print_was_changed_is_said_until_the_text_is_kept(
+    desk: Desk, first: None
+) -> None:
+    said = "The print there has been changed since."
+    desk.put_by(EDIT)
+    desk.do(requests.Correct(2, 0, 3, "That"))
+    for keys in (["take_back"], ["give_up"], ["take_back", "bring_back", "give_up"]):
+        desk.act("bring_back")
+        assert desk.window.message.text == said
+        for key in keys:
+            desk.act(key)
+    desk.act("bring_back")
+    _type(desk, " So.")
+    desk.wait_for_draft()
+    waiting = Drafts(desk.path).waiting()
+    assert waiting and (waiting.before, waiting.text) == (
+        EDIT.before,
+        f"{EDIT.text} So.",
+    )
+    # what came back by the key of redo was typed from the same print
+    desk.act("take_back")
+    desk.act("take_back")
+    desk.window.print.redo()
+    desk.act("give_up")
+    desk.act("bring_back")
+    assert desk.window.message.text == said
+    desk.act("keep")
+    desk.window.print.put_caret(0)
+    _type(desk, "So ")
+    desk.act("give_up")
+    desk.act("bring_back")
+    assert desk.window.message.text == ""
+    desk.act("give_up")
+
+
+def test_a_text_that_is_typed_anew_is_one_of_the_print_as_it_is(
+    desk: Desk, first: None
+) -> None:
+    desk.put_by(EDIT)
+    desk.do(requests.Correct(2, 0, 3, "That"))
+    for key in ("take_back", "give_up"):
+        desk.act("bring_back")
+        desk.act(key)
+        _type(desk, "So ")
+        draft = desk.draft()
+        assert draft is not None and draft.before == "That mon is far away."
+        desk.act("give_up")
+        desk.unsent.take_up(draft, draft.text)
+        desk.keep_draft(None)
+
+
+def test_a_text_that_came_back_by_redo_and_was_kept_is_given_up_no_more(
+    desk: Desk, first: None
+) -> None:
+    desk.act("new_after")
+    _type(desk, "It rose.")
+    desk.act("give_up")
+    desk.act("bring_back")
+    desk.act("take_back")
+    assert _kept(desk) == (["It rose."], "")
+    desk.window.print.redo()
+    assert _kept(desk) == ([], "It rose.")
+    desk.act("keep")
+    desk.act("give_up")
+    assert (prints_of(desk)[1], _kept(desk)) == ("It rose.", ([], ""))
+    desk.act("bring_back")
+    assert desk.window.message.text == "No text was given up in this book."
+
+
+def test_that_a_text_was_given_up_is_not_said_once_it_is_typed_further(
+    desk: Desk, first: None
+) -> None:
+    desk.act("new_after")
+    _type(desk, "It rose.")
+    desk.act("give_up")
+    assert desk.window.message.text == GIVEN_UP
+    desk.act("bring_back")
+    assert (desk.window.print.text, desk.window.message.text) == ("It rose.", "")
+    desk.act("give_up")
+
+
 @pytest.mark.parametrize("answer, count", [(0, 3), (1, 1), (2, 0)])
 @pytest.mark.parametrize("is_offered", [True, False])
 def test_of_lines_that_are_typed_further_it_is_asked_whether_they_are_paragraphs(

@@ -116,8 +116,13 @@ class Desk:
     _beneath = "", 0, 0
     # others than hands type where nothing can be typed
     _is_typed_nowhere = False
-    # the text that was put into the print last by no hands
+    # the text that was put into the print last by no hands, the print from which it was typed, and it
+    # again where it was given up by being taken back
     _put_in = ""
+    _put_in_from: str | None = None
+    _taken_back: Draft | None = None
+    # the print from which what is typed was typed, where that was another one
+    _typed_from: str | None = None
     # what is said to be in the way of keeping what is typed
     _unkept = ""
     # the same of a text that is held while the window waits
@@ -476,6 +481,7 @@ class Desk:
         self.show(done.contents, done.paragraph)
         # what was typed and taken away before that is taken back no more
         self.window.print.have_kept()
+        self.type_anew()
         said = done.said[:1].upper() + done.said[1:]
         self.say(said if said.endswith(".") else f"{said}.")
 
@@ -549,6 +555,7 @@ class Desk:
                 self.reading = self.asked(lambda: self.book.reading(its))
         if self.number != before:
             self.in_hand = None
+            self.type_anew()
             # what was typed and taken away in another one, which may read the same, stays there
             self.window.print.have_kept()
         self.show_reading(0 if self.number != before else self.window.print.place)
@@ -851,7 +858,8 @@ class Desk:
         assert self.reading is not None
         its = self.reading.its
         table = its.paragraph.table
-        return Draft(Aim.EDIT, self.number, table, its.text, text, None, version)
+        before = self.typed_from()
+        return Draft(Aim.EDIT, self.number, table, before, text, None, version)
 
     def keep_draft(self, draft: Draft | None) -> None:
         """Has a text wait until the book has it, or nothing."""
@@ -1016,8 +1024,9 @@ class Desk:
         if self.is_closed and self.beside is not None:
             # what is typed on in the print has to wait by itself
             self.put_by(self.beside)
-        self.keep_draft(self.draft())
         text, table = self.typed_text(), self.table_of_typed()
+        self._see_put_in(text)
+        self.keep_draft(self.draft())
         if not self.is_typed():
             self._preview = None
             if self.reading is not None and self.new is None:
@@ -1038,6 +1047,20 @@ class Desk:
         tables, now = self.book.tables, self.print_of(text)
         self.ahead.latest("preview", partial(tables.preview, table, text, now), take)
         self._unlinked()
+
+    def _see_put_in(self, text: str) -> None:
+        """Sees whether a text that was put in is typed, which isn't given up any more then."""
+        if not self.is_typed():
+            self._typed_from = None
+        elif text == self._put_in:
+            self._typed_from = self._put_in_from
+            draft, taken = self.draft(), self._taken_back
+            if taken is not None and draft is not None:
+                self._taken_back = None
+                take_up = partial(self.unsent.take_up, draft, text)
+                # what can't be kept is said where it is kept as what waits
+                with suppress(NotKept):
+                    self.aside.result(take_up, False)
 
     def _give_up_where_none_is_typed(self) -> None:
         """Gives up what others than hands type in the print where nothing can be typed, and says so."""
@@ -1060,9 +1083,19 @@ class Desk:
             return self.new.table
         return self.reading.its.paragraph.table if self.reading else None
 
-    def put_in(self, text: str) -> None:
-        """Has a text that was typed before be in the print, in place of what is there."""
-        self._put_in = text
+    def typed_from(self) -> str:
+        """The print from which a text was typed, which may be another one by now."""
+        before = self.before()
+        return before if self._typed_from is None else self._typed_from
+
+    def type_anew(self) -> None:
+        """What is typed from now on is typed from the print as it is now."""
+        self._typed_from = self._put_in_from = self._taken_back = None
+
+    def put_in(self, text: str, before: str | None = None) -> None:
+        """Has a text be in the print in place of what is there, typed before from a print."""
+        self._put_in, self._taken_back = text, None
+        self._put_in_from = self._typed_from if before is None else before
         self.window.print.selectAll()
         self.window.print.put_in(text)
 
@@ -1072,6 +1105,7 @@ class Desk:
         self.window.print.undo()
         if before is None or self.draft() is not None or before.text != self._put_in:
             return
+        self._taken_back = before
         self.say(f"Given up. The book is as it was. {self.put_by(before)}")
 
     def settle(self) -> bool:
@@ -1110,6 +1144,7 @@ class Desk:
         """Shows what was typed as it was kept, with the caret at a place."""
         self.keep_draft(None)
         self.new = None
+        self.type_anew()
         self._is_showing = True
         self.window.print.put_caret(place)
         self._is_showing = False
@@ -1152,6 +1187,7 @@ class Desk:
     def begin_new(self, new: New, text: str = "") -> None:
         """Has a new paragraph be typed."""
         self.new, self._light = new, None
+        self.type_anew()
         window = self.window
         if not self.contents.paragraphs:
             # that there is none is no news any more
@@ -1301,6 +1337,7 @@ class Desk:
         self.watch()
         draft, new, number = self.draft(), self.new, self.number
         place, beside = self.window.print.place, self.beside
+        before = self.before()
         if draft is not None:
             draft = self.asked(partial(self.book.unkept, contents, draft))
         # the session may end again before this is in its place
@@ -1311,7 +1348,8 @@ class Desk:
         if draft is None:
             self.keep_draft(None)
             return ""
-        changed = "" if self.number != number else changed_since(draft, self.before())
+        is_same = self.number != number or self.before() == before
+        changed = "" if is_same else changed_since(draft, self.before())
         if beside is not None or changed:
             return f"{what_for(draft)} isn't in the book.{changed} {self.put_by(draft)}"
         if new is not None:

@@ -179,6 +179,7 @@ class Typed:
             return
         back = desk.put_by(draft)
         desk.new = None
+        desk.type_anew()
         desk.show_reading(0)
         desk.say(f"Given up. The book is as it was. {back}")
 
@@ -198,6 +199,8 @@ class Typed:
         if name is not None:
             draft = texts[names.index(name)]
             changed = self.changed_since(draft)
+            # that it was given up is so no more
+            desk.say("")
             try:
                 desk.aside.result(lambda: desk.unsent.take_up(draft, draft.text), False)
             except NotKept as fault:
@@ -232,7 +235,7 @@ class Typed:
             self._lines_further(draft, new, lines)
             return
         desk.beside = None
-        self._put_in(new, draft.text)
+        self._put_in(new, draft.text, draft.before)
 
     def _gone_to(self, draft: Draft) -> New | None:
         """Goes to the paragraph of a text, and gives the new one that it will be; none if it isn't."""
@@ -247,14 +250,14 @@ class Typed:
         table = draft.table if draft.table in desk.contents.tables else None
         return New(aim, desk.number, table or desk.table_of_new())
 
-    def _put_in(self, new: New | None, text: str) -> None:
-        """Has a text be typed in the chosen paragraph, or as a new one."""
+    def _put_in(self, new: New | None, text: str, before: str) -> None:
+        """Has a text be typed in the chosen paragraph, from a print of it, or as a new one."""
         desk = self.desk
         if new is not None:
             desk.begin_new(new, text)
         else:
             desk.window.print.setFocus()
-            desk.put_in(text)
+            desk.put_in(text, before)
 
     def _lines_further(
         self, draft: Draft, new: New | None, lines: Sequence[str]
@@ -274,10 +277,10 @@ class Typed:
             return
         if answer == _ONE:
             desk.beside = None
-            self._put_in(new, joined)
+            self._put_in(new, joined, draft.before)
         elif answer == _PARAGRAPHS:
             # until they are typed the first doesn't wait without the others
-            self._put_in(new, lines[0])
+            self._put_in(new, lines[0], draft.before)
             self.typed_lines(lines)
         else:
             desk.say(f"Given up. The book is as it was. {desk.put_by(draft)}")
@@ -334,7 +337,8 @@ class Typed:
         if aim is not None:
             return Draft(aim, desk.number, table, "", text)
         its = (new.aim, new.paragraph) if new else (Aim.EDIT, desk.number)
-        return Draft(*its, table, desk.before(), text)
+        before = desk.before() if new else desk.typed_from()
+        return Draft(*its, table, before, text)
 
     def typed_lines(self, lines: Sequence[str]) -> None:
         """Types paragraphs: the first is what is typed, the others come after it."""
