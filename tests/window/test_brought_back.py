@@ -293,6 +293,19 @@ def test_that_a_text_was_given_up_is_not_said_once_it_is_typed_further(
     desk.act("give_up")
 
 
+def test_of_a_text_of_a_struck_paragraph_it_is_said_that_it_would_be_a_new_one(
+    desk: Desk, first: None
+) -> None:
+    desk.put_by(EDIT)
+    desk.do(requests.Strike(2))
+    desk.act("bring_back")
+    assert desk.window.message.text == (
+        "Paragraph 2 is struck, so it would be a new paragraph."
+    )
+    assert desk.new is not None and desk.window.print.text == EDIT.text
+    desk.act("give_up")
+
+
 @pytest.mark.parametrize("answer, count", [(0, 3), (1, 1), (2, 0)])
 @pytest.mark.parametrize("is_offered", [True, False])
 def test_of_lines_that_are_typed_further_it_is_asked_whether_they_are_paragraphs(

@@ -7,6 +7,7 @@ from PyQt6.QtCore import QMimeData, QPointF, Qt, QUrl
 from PyQt6.QtGui import QDropEvent, QImage
 from PyQt6.QtWidgets import QApplication
 
+from scribe.window import dialogs
 from scribe.window.desk import Desk
 from scribe.window.fields import Print
 
@@ -113,6 +114,27 @@ def test_a_paragraph_and_those_after_it_of_pasted_lines_are_taken_back_together(
     assert [each.id for each in desk.contents.paragraphs if each.struck] == [4, 5]
     desk.act("take_back")
     assert desk.window.message.text.startswith("There is nothing that Ctrl+Z could")
+
+
+def test_pasted_lines_that_are_neither_are_given_up(
+    desk: Desk, given: Answers, monkeypatch: pytest.MonkeyPatch
+) -> None:
+    names: list[str] = []
+
+    def one_of(_: object, title: str, asked: str, given: list[str], first: int) -> str:
+        names.extend(given)
+        return given[first]
+
+    monkeypatch.setattr(dialogs, "one_of", one_of)
+    given["choices"] = [2, 0]
+    pasted(desk, Text="One.\nTwo.\n")
+    assert not desk.is_typed()
+    assert desk.window.message.text == (
+        "The lines aren't in the book. Ctrl+B brings them back."
+    )
+    desk.act("bring_back")
+    assert names == ["1. A text of a new paragraph: “One. Two.”"]
+    assert prints_of(desk)[:3] == ["The Moon", "One.", "Two."]
 
 
 def test_what_stands_after_pasted_lines_that_are_joined_is_parted_from_them(

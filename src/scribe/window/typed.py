@@ -22,6 +22,7 @@ from scribe.window.dialogs import IsStopped, Say
 from scribe.window.fields import MOST_OF_ONE
 from scribe.words.deeds import Deed
 from scribe.words.drafts import (
+    beside_struck,
     changed_since,
     not_kept,
     what_for,
@@ -211,11 +212,13 @@ class Typed:
                 desk.say_too(changed.lstrip())
 
     def changed_since(self, draft: Draft) -> str:
-        """That the print at which a text was typed is another since, or isn't there; or nothing."""
+        """That the print at which a text was typed is another since, struck or gone; or nothing."""
         desk, row = self.desk, self.desk.contents.place(draft.paragraph)
         if row is None:
             return without_paragraph(draft)
         session, number = desk.book.session, desk.contents.paragraphs[row].id
+        if desk.contents.paragraphs[row].struck and draft.aim is Aim.EDIT:
+            return beside_struck(number)
         return changed_since(draft, desk.asked(lambda: session.print_of(number)))
 
     def type_further(self, draft: Draft) -> None:
@@ -303,9 +306,8 @@ class Typed:
         front, back = whole[: selected.start], whole[selected.stop :]
         is_before = self._is_before(front, lines, back)
         paragraphs = lines[:-1] if is_before else _between(front, lines, back)
-        aim = Aim.BEFORE if is_before else None
         # until that is answered the lines wait as paragraphs
-        self._wait(self._draft_of(paragraphs, aim))
+        self._wait(self._draft_of(paragraphs, Aim.BEFORE if is_before else None))
         answer = dialogs.choice(desk.window, "Pasted lines", said, answers)
         if desk.is_ending:
             return
@@ -324,6 +326,17 @@ class Typed:
         desk.keep_draft(desk.draft())
         if answer == 1 and count > MOST_OF_ONE:
             raise Stop(too_much(count, MOST_OF_ONE))
+        if answer == 2:
+            self._put_lines_by(lines)
+
+    def _put_lines_by(self, lines: Sequence[str]) -> None:
+        """Gives up pasted lines, as paragraphs."""
+        desk = self.desk
+        table, text = desk.table_of_typed(), "\n".join(filter(str.strip, lines))
+        draft = Draft(Aim.AFTER, desk.number, table, "", text)
+        fault = desk.aside.result(lambda: desk.unsent.put_by(draft), False)
+        how = fault or "Ctrl+B brings them back."
+        desk.say(f"The lines aren't in the book. {how}")
 
     def _is_before(self, front: str, lines: Sequence[str], back: str) -> bool:
         """Whether pasted lines are before a whole paragraph, which stays as it is, with its marks."""

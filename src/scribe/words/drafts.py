@@ -77,6 +77,11 @@ def without_paragraph(draft: Draft) -> str:
     return f" {why} would be a new paragraph."
 
 
+def beside_struck(number: int) -> str:
+    """What becomes of a text whose paragraph is struck by now, after a blank."""
+    return f" Paragraph {number} is struck, so it would be a new paragraph."
+
+
 def as_paragraphs(numbers: Sequence[int], count: int) -> str:
     """That a text is in the book as so many of its newest paragraphs, of these numbers; or nothing."""
     newest = sorted(numbers)[-count:] if count else []
