@@ -101,6 +101,12 @@ class OpenFile:
             self._was_database = self._is_database(self._descriptor)
             self._most = os.fstat(self._descriptor).st_size
 
+    def fileno(self) -> int:
+        """Its descriptor; ``ValueError`` where it is held no longer."""
+        if self._descriptor is None:
+            raise ValueError("the file is closed")
+        return self._descriptor
+
     @property
     def is_at_its_path(self) -> bool:
         """Whether the file has its name still; True if there was none to be held, or nobody can tell."""

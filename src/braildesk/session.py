@@ -176,6 +176,10 @@ class Session(Asking):
         """The number of the process in which the program runs."""
         return self._pipe.pid
 
+    def fileno(self) -> int:
+        """The descriptor of the file that the session has open, whatever stands at its path."""
+        return self._file.fileno()
+
     def ask(self, request: Request[Answer]) -> Answer:
         """Sends a request, and gives what it is answered by; raises ``Refused`` or ``Lost``."""
         return request.result.read(self.reply(request))

@@ -64,7 +64,7 @@ def copied(path: StrPath) -> Iterator[Path]:
     What is refused of the copy names the book itself.
     """
     with snapshot(path) as copy:
-        copy.chmod(0o600)
+        copy.chmod(copy.stat().st_mode & 0o777 | 0o600)
         try:
             yield copy
         except Refused as refusal:

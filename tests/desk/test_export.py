@@ -387,6 +387,43 @@ def test_an_exported_volume_is_for_those_whom_the_book_is_for(
     assert stat.S_IMODE(found.stat().st_mode) == wanted
 
 
+@pytest.mark.parametrize("is_replaced", [True, False])
+def test_whatever_stands_at_the_path_by_then_volumes_are_for_those_of_the_book_that_was_read(
+    moon: Path, monkeypatch: pytest.MonkeyPatch, is_replaced: bool
+) -> None:
+    moon.chmod(0o600)
+    made = export.Export(export.Job(moon, moon.with_name("out"), PageSize(), 0))
+
+    def swap() -> None:
+        made.job.folder.mkdir()
+        moon.rename(f"{moon}-kept")
+        if is_replaced:
+            moon.touch()
+            moon.chmod(0o666)
+
+    monkeypatch.setattr(made, "make_folder", swap)
+    assert len(list(made.run())) == 1
+    assert stat.S_IMODE(made.job.file(1).stat().st_mode) == 0o600
+
+
+def test_a_book_that_is_another_one_whenever_it_was_read_is_not_exported(
+    moon: Path, monkeypatch: pytest.MonkeyPatch
+) -> None:
+    read = export.export
+
+    def swapped(*words: Any, **more: Any) -> bytes:
+        pages = read(*words, **more)
+        other = shutil.copyfile(moon, moon.with_name("other"))
+        os.replace(other, moon)
+        return pages
+
+    monkeypatch.setattr(export, "export", swapped)
+    job = export.Job(moon, moon.with_name("out"), PageSize(), 0)
+    with pytest.raises(export.BookChanges):
+        export.export_pages(job, 1, [])
+    assert not job.folder.exists()
+
+
 def test_a_copy_opens_as_the_same_book(moon: Path) -> None:
     ran = scribe("copy", moon, "my copy.braildesk", folder=moon.parent)
     assert ran == Ran(0, f"my copy.braildesk is a copy of {moon}, at version 7.\n", "")

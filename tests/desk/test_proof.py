@@ -2,7 +2,9 @@
 
 import re
 from html.parser import HTMLParser
+from io import BytesIO, StringIO
 from pathlib import Path
+from stat import S_IMODE
 from xml.etree import ElementTree
 
 import pytest
@@ -13,7 +15,11 @@ from braildesk.desk.page_places import PageMap
 from braildesk.desk.proof import ProofLine, ProofPage, ProofWord, proof_pages
 from braildesk.text.cells import EMPTY_CELL
 
+from scribe.cli import run_words
+from scribe.cli.commands import proof
+from scribe.words.console import Console
 from scribe.words.proof_html import Proof
+from scribe.words.status import Status
 from tool import ROOT, scribe
 
 
@@ -398,3 +404,24 @@ def test_what_is_no_code_of_a_language_is_refused(moon: Path, code: str) -> None
     assert (ran.status, ran.shown) == (1, "")
     assert "is no code of a language, as en, de or pt-BR are" in ran.said
     assert not moon.with_name("moon.html").exists()
+
+
+@pytest.mark.parametrize("is_replaced", [True, False])
+def test_whatever_stands_at_the_path_by_then_a_proof_is_for_those_of_the_book_that_was_read(
+    moon: Path, monkeypatch: pytest.MonkeyPatch, is_replaced: bool
+) -> None:
+    moon.chmod(0o600)
+
+    def wanted(found: list[ProofPage], marks_only: bool) -> list[ProofPage]:
+        moon.rename(f"{moon}-kept")
+        if is_replaced:
+            moon.touch()
+            moon.chmod(0o666)
+        return found
+
+    monkeypatch.setattr(proof, "_wanted", wanted)
+    shown, said = StringIO(), StringIO()
+    made = moon.with_name("moon.html")
+    words = ["proof", str(moon), str(made)]
+    assert run_words(words, Console(BytesIO(), shown, said)) is Status.DONE
+    assert S_IMODE(made.stat().st_mode) == 0o600

@@ -4,19 +4,24 @@ import os
 import re
 from collections.abc import Callable, Iterable, Iterator, Sequence
 from dataclasses import dataclass
+from os import fspath
 from pathlib import Path
+from typing import TypeVar
 
 from braildesk import Code, NotFound, Refused, check, export
 from braildesk.desk import Problem
 from braildesk.desk.layout import PageSize
 from braildesk.desk.ranges import PageRange
 from braildesk.desk.whole_file import Access, write_whole
+from braildesk.held import is_at_path, open_file
 from braildesk.named_files import read_file
+from braildesk.protocol.asked import BookFile
 
 # how often the volumes are read until all are of one version
 TRIES = 3
 #: How many bytes of an older file are compared: more than those of any volume.
 MOST_BYTES = 1 << 28
+_Found = TypeVar("_Found")
 #: How the name of a file of single pages goes on after the number of its volume.
 _OF_PAGES = "-(?:changed|pages-[0-9,-]+)"
 
@@ -209,6 +214,8 @@ class Export:
         self._check = check
         self._volumes: list[bytes | Refused] = []
         self._written: list[int] = []
+        #: That of the file from which the volumes were read.
+        self._access = Access(0o600)
         #: The files of pages that differ which were written.
         self.changed_files: list[Path] = []
 
@@ -227,7 +234,7 @@ class Export:
 
         Raises `BookChanges`, `NoFolder` and `NotWritten`, and what the client raises of the book.
         """
-        self._volumes = self._of_one_version()
+        self._volumes, self._access = _with_access(self.job, self._of_one_version)
         self.make_folder()
         for volume, pages in enumerate(self._volumes, 1):
             self._check()
@@ -236,7 +243,7 @@ class Export:
                 yield LeftOut(volume, file, pages, os.path.lexists(file))
                 continue
             differences, changed = self._compared(volume, pages)
-            self.write(volume, file, pages, changed)
+            self.write(volume, file, pages, self._access, changed)
             self._written.append(volume)
             yield Written(volume, file, *_size(pages), differences, changed)
 
@@ -311,12 +318,17 @@ class Export:
             return differences, None
         file, parted = self.job.changed_file(volume), _parted(pages)
         changed = b"".join(parted[number - 1] for number in differences.pages)
-        self.write(volume, file, changed)
+        self.write(volume, file, changed, self._access)
         self.changed_files.append(file)
         return differences, file
 
     def write(
-        self, volume: int, file: Path, pages: bytes, changed: Path | None = None
+        self,
+        volume: int,
+        file: Path,
+        pages: bytes,
+        access: Access,
+        changed: Path | None = None,
     ) -> None:
         """Writes a volume, or pages of it, after some others; raises `NotWritten`.
 
@@ -324,7 +336,7 @@ class Export:
         """
         is_there = os.path.lexists(file)
         try:
-            write_whole(file, pages, Access.of(self.job.book))
+            write_whole(file, pages, access)
         except OSError as cause:
             files = self._files(self._written, range(volume + 1, self.volumes + 1))
             raise NotWritten(volume, file, cause, is_there, files, changed) from cause
@@ -340,16 +352,28 @@ def export_pages(
     """
     number = _only_volume(job) if volume is None else volume
     try:
-        pages = _parted(_pages_of(job, number))
+        read, access = _with_access(job, lambda: _pages_of(job, number))
     except NotFound as missing:
         raise WhichVolume(number) from missing
+    pages = _parted(read)
     found = b"".join(page for each in wanted for page in each.of(number, pages))
     name = ",".join(each.name for each in wanted)
     file = job.folder / f"{job.name}-{number}-pages-{name}.brf"
     made = Export(job)
     made.make_folder()
-    made.write(number, file, found)
+    made.write(number, file, found, access)
     return WrittenPages(number, file, len(_parted(found)))
+
+
+def _with_access(job: Job, read: Callable[[], _Found]) -> tuple[_Found, Access]:
+    """What is read of a book, and the access of the file that has its path before and after that."""
+    book = BookFile(fspath(job.read_at))
+    for _ in range(TRIES):
+        with open_file(book) as file:
+            found = read()
+            if is_at_path(book, file):
+                return found, Access.of(file.fileno())
+    raise BookChanges(check(job.read_at), job.folder)
 
 
 def _only_volume(job: Job) -> int:

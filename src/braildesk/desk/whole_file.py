@@ -61,11 +61,11 @@ class Access(Value):
     listed: int = 0
 
     @classmethod
-    def of(cls, path: Path) -> "Access":
-        """That of a file from which another one is made."""
-        found = path.stat()
+    def of(cls, file: int | Path) -> "Access":
+        """That of a file from which another one is made: an open one, where others may replace it."""
+        found = os.stat(file)
         listed = found.st_mode & ANYONE & stat.S_IRWXG
-        return cls(mode_of(path, found) & ANYONE, found.st_gid, listed)
+        return cls(mode_of(file, found) & ANYONE, found.st_gid, listed)
 
 
 @dataclass(frozen=True, eq=False, repr=False)

@@ -93,13 +93,14 @@ def _written(
     with looked_at(arguments, console) as (session, _):
         found = list(proof_pages(session, page_size))
         left = open_marks(session) - sum(page.open_marks for page in found)
+        access = Access.of(session.fileno())
     pages = list(_wanted(found, arguments.marks_only))
     others = [elsewhere(left)] if left else []
     if not pages:
         raise Stop(_nothing(arguments.marks_only), more=others)
     text = "".join(shown.html(pages)).encode()
     try:
-        write_whole(arguments.proof, text, Access.of(arguments.file), replaces)
+        write_whole(arguments.proof, text, access, replaces)
     except MayNotLast as error:
         raise Stop(may_not_last(arguments.proof, error), Status.FAILED) from error
     except OSError as error:
