@@ -163,9 +163,15 @@ def _fill(
     """
     with held(BookFile(asked.path), os.O_RDWR) as file, ExitStack() as stack:
         place = stack.enter_context(place_of(path))
-        if os.fstat(file.fileno()).st_size:
+        found = os.fstat(file.fileno())
+        if found.st_size:
             _judge_copy(file, asked, program)
             return False
+        if found.st_uid != os.geteuid():
+            raise NotMade(
+                f"“{asked.path}” is an empty file of another user, who could read and change what is put"
+                " there. Nothing was made. Take another path for the new book."
+            )
         stack.enter_context(_failing_whole(asked))
         begun = stack.enter_context(_temporary())
         _judge_log(asked.path, NotMade, "new book")
@@ -182,20 +188,35 @@ def _fill(
 
 
 def _put_over_empty(whole: BinaryIO, empty: BinaryIO, path: str, place: Place) -> None:
-    """Puts a file with these bytes in the place of an empty one, with the access of that."""
+    """Puts a file with these bytes in the place of an empty one, with the access of that.
+
+    The umask keeps others from it as from any new book.
+    """
     with made_beside(path) as made:
-        with create(made) as written:
+        with create(made, 0o666) as written:
+            most = os.fstat(written.fileno()).st_mode
+            os.fchmod(written.fileno(), 0o600)
             copy_bytes(whole.fileno(), written.fileno())
             give_list(written.fileno(), empty.fileno())
             give_access(written.fileno(), empty.fileno())
+            _limit(written, most)
             os.fsync(written.fileno())
             like = os.fstat(written.fileno())
         place.judge(empty.fileno())
         put_over(made, place, like)
 
 
+def _limit(file: BinaryIO, most: int) -> None:
+    """Takes from the mode of a file what another mode doesn't have."""
+    mode = os.fstat(file.fileno()).st_mode & 0o777
+    if mode & ~most:
+        os.fchmod(file.fileno(), mode & most)
+
+
 def _write_into(empty: BinaryIO, whole: BinaryIO) -> None:
     """Writes a book into an empty file itself, which is empty again if that fails."""
+    with _temporary() as made, create(made, 0o666) as new:
+        _limit(empty, os.fstat(new.fileno()).st_mode)
     try:
         copy_bytes(whole.fileno(), empty.fileno())
         os.fsync(empty.fileno())

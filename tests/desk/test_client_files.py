@@ -1488,6 +1488,54 @@ def test_no_empty_file_becomes_a_book_through_a_link_of_another_user(
     braildesk.new_book(empty)
 
 
+@NEEDS_ROOT
+@pytest.mark.parametrize("is_root", [True, False])
+def test_no_empty_file_of_another_user_becomes_a_book(
+    tmp_path: Path, is_root: bool
+) -> None:
+    empty = tmp_path / "empty"
+    tmp_path.chmod(0o1777)
+    lead_to(tmp_path)
+    empty.touch()
+    empty.chmod(0o666)
+    os.chown(empty, STRANGER if is_root else 1, STRANGER)
+
+    def make() -> None:
+        with pytest.raises(NotMade) as caught:
+            braildesk.new_book(empty)
+        assert caught.value.sentence == (
+            f"“{empty}” is an empty file of another user, who could read and change what is put there."
+            " Nothing was made. Take another path for the new book."
+        )
+
+    if is_root:
+        make()
+    else:
+        assert as_stranger(make) == ""
+    assert empty.read_bytes() == b""
+
+
+@pytest.mark.parametrize("is_replaced", [True, False])
+def test_an_empty_file_becomes_a_book_for_those_whom_the_umask_leaves(
+    tmp_path: Path, monkeypatch: pytest.MonkeyPatch, is_replaced: bool
+) -> None:
+    empty = tmp_path / "empty"
+    empty.touch()
+    empty.chmod(0o666)
+    if not is_replaced:
+
+        def refused(*_: object, **__: object) -> None:
+            raise OSError(errno.EPERM, os.strerror(errno.EPERM))
+
+        monkeypatch.setattr(os, "replace", refused)
+    before = os.umask(0o027)
+    try:
+        braildesk.new_book(empty)
+    finally:
+        os.umask(before)
+    assert stat.S_IMODE(empty.stat().st_mode) == 0o640
+
+
 @contextmanager
 def swapped(folder: Path, name: Callable[[], Path], to: Path) -> Iterator[Path]:
     """A program in whose place another user first has a name lead elsewhere, once it is begun."""
