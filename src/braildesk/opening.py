@@ -120,6 +120,9 @@ def room(path: str) -> int | None:
         disk = os.statvfs(os.path.dirname(os.path.realpath(path)))
     except (OSError, ValueError):
         return None
+    if not disk.f_blocks:
+        # it has no blocks at all, as /proc has none, and says nothing of its room
+        return None
     blocks = disk.f_bavail if os.geteuid() else disk.f_bfree
     return blocks * disk.f_frsize
 

@@ -9,7 +9,8 @@ from pathlib import Path
 
 import pytest
 
-from braildesk import Session
+import braildesk
+from braildesk import DeskError, Session
 from tool import environment
 from words import LOOKING, WORDS
 
@@ -267,3 +268,10 @@ def test_a_new_book_says_that_the_temporary_folder_has_no_room(
         f" folder, {failed}. Let TMPDIR name a folder with room.\n"
     )
     assert not book.exists()
+
+
+def test_a_place_of_the_system_is_not_said_to_have_no_room() -> None:
+    for place in ("/proc/book", "/sys/book", "/dev/fd/book"):
+        with pytest.raises(DeskError) as caught:
+            braildesk.new_book(place)
+        assert "no room" not in caught.value.sentence
