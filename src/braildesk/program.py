@@ -245,8 +245,11 @@ def session_words(path: StrPath, program: StrPath | None = None) -> list[str]:
 
 
 def cannot_run(program: str, error: OSError) -> NoProgram:
-    """Why a file that was found can't be run."""
-    return NoProgram(f"The program “{program}” can't be run: {error.strerror}.")
+    """Why a file that was found can't be run, which may lack something else of the system."""
+    lacking = f"{error.filename}: " if error.filename == os.devnull else ""
+    return NoProgram(
+        f"The program “{program}” can't be run: {lacking}{error.strerror}."
+    )
 
 
 def strange(program: StrPath | None, answer: bytes) -> Failed:
@@ -410,9 +413,11 @@ def _by_text(
             shared = (descriptor,)
             return _run(program, words, asked, sent, shared, beside, while_waiting)
         except CannotOpen as refused_by_program:
+            is_linked = os.path.lexists(os.path.dirname(path))
+            more = "/proc is mounted" if is_linked else "/dev/fd leads to /proc/self/fd"
             raise Failed(
                 f"The text of the table {asked.path} could not be handed to braildesk, since it"
-                f" can't open {path}. Nothing was translated. See that /proc is mounted."
+                f" can't open {path}. Nothing was translated. See that {more}."
             ) from refused_by_program
 
 

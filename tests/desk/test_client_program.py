@@ -95,6 +95,18 @@ def test_a_program_that_cannot_be_run_is_named(tmp_path: Path) -> None:
         )
 
 
+def test_what_else_is_lacking_for_the_program_to_be_run_is_named(
+    tmp_path: Path, monkeypatch: pytest.MonkeyPatch
+) -> None:
+    monkeypatch.setattr(os, "devnull", str(tmp_path / "null"))
+    with pytest.raises(NoProgram) as caught:
+        braildesk.new_book(tmp_path / "book")
+    assert caught.value.sentence == (
+        f"The program “{braildesk.find()}” can't be run: {tmp_path / 'null'}: No such file or"
+        " directory."
+    )
+
+
 def test_a_program_that_answers_something_else_is_not_taken_for_braildesk(
     tmp_path: Path,
 ) -> None:
