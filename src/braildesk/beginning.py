@@ -2,7 +2,6 @@
 
 from collections.abc import Callable
 from contextlib import suppress
-from os import fspath
 from types import TracebackType
 from typing import Self
 
@@ -10,7 +9,7 @@ from braildesk import program as programs
 from braildesk.openfile import OpenFile
 from braildesk.pipe import Pipe
 from braildesk.program import StrPath
-from braildesk.protocol.asked import BookFile
+from braildesk.protocol.asked import BookFile, seen
 from braildesk.refusals import DeskError
 
 
@@ -18,9 +17,9 @@ def begun(
     book: BookFile, program: StrPath | None, while_waiting: Callable[[], None]
 ) -> tuple[Pipe, OpenFile]:
     """The pipes to the program, which begins to open a book, and the file that is held beside it."""
-    words = programs.session_words(book.path, program)
+    words = programs.session_words(book, program)
     programs.judge(book, words[0])
-    file = OpenFile(book.path)
+    file = OpenFile(book.real)
     try:
         return Pipe(words, book, while_waiting), file
     except BaseException as error:
@@ -38,11 +37,11 @@ class Beginning:
     """
 
     def __init__(self, path: StrPath, while_waiting: Callable[[], None]) -> None:
-        self.path = path
+        self.path = seen(path)
         self.while_waiting = while_waiting
         self._begun: list[tuple[Pipe, OpenFile]] = []
         with suppress(DeskError):
-            self._begun.append(begun(BookFile(fspath(path)), None, while_waiting))
+            self._begun.append(begun(BookFile.of(self.path), None, while_waiting))
 
     def take(self) -> tuple[Pipe, OpenFile] | None:
         """What was begun, which is given once."""

@@ -18,7 +18,7 @@ from typing import TYPE_CHECKING
 
 from braildesk.held import alone
 from braildesk.opening import MAGIC, has_page
-from braildesk.protocol.asked import AskedOfFile, NewBook, TableFile, real_path
+from braildesk.protocol.asked import AskedOfFile, NewBook, TableFile
 from braildesk.workshop import place_of
 from braildesk.writers import has_more_writers
 
@@ -43,7 +43,7 @@ def started(asked: AskedOfFile, start: Callable[[], Popen[bytes]]) -> Popen[byte
     ``start`` is called in another thread where somebody else may put something in the place of the
     book. What it starts can't be made to end with the thread that started it.
     """
-    if isinstance(asked, TableFile) or not _may_be_replaced(asked.path):
+    if isinstance(asked, TableFile) or not _may_be_replaced(asked):
         return start()
     fence = _fence(asked)
     return start() if fence is None else _started_within(fence, start)
@@ -54,12 +54,12 @@ def is_known() -> bool:
     return _version(_library()) > 0
 
 
-def _may_be_replaced(path: str) -> bool:
+def _may_be_replaced(asked: AskedOfFile) -> bool:
     """Whether another user may put something in the place of a file, or of a folder on the way to it."""
     try:
-        real = real_path(path)
+        real = asked.real
         # links on the way may lie in any folder
-        return real != os.path.abspath(path) or _is_shared(os.path.dirname(real))
+        return real != os.path.abspath(asked.path) or _is_shared(os.path.dirname(real))
     except (OSError, ValueError):
         return True
 
@@ -105,7 +105,7 @@ def _let_through(asked: AskedOfFile) -> Iterator[tuple[int, int]]:
     """
     with suppress(OSError), open(os.devnull, "rb") as null:
         yield null.fileno(), _WRITE | _CUT
-    with suppress(OSError), place_of(real_path(asked.path)) as place:
+    with suppress(OSError), place_of(asked.real) as place:
         if isinstance(asked, NewBook):
             yield place.folder, _WRITE | _MAKE | _CUT
             return

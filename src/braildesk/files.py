@@ -3,7 +3,6 @@
 import sqlite3
 from collections.abc import Iterator
 from contextlib import ExitStack, closing, contextmanager
-from os import fspath
 from pathlib import Path
 from typing import BinaryIO
 
@@ -11,7 +10,7 @@ from braildesk import opening
 from braildesk.held import copy_held, held
 from braildesk.opening import has_work, reader, waited
 from braildesk.program import StrPath
-from braildesk.protocol.asked import BookFile, log_path, real_path
+from braildesk.protocol.asked import BookFile
 from braildesk.protocol.codes import Code
 from braildesk.protocol.values import Table
 from braildesk.refusals import Failed, cannot_open, refused
@@ -37,13 +36,13 @@ def read_tables(path: StrPath, *, timeout: float = 0.0) -> tuple[Table, ...]:
     The file is only read, with what stands in the log beside it. While a session has it open, that
     is refused (``CannotOpen``), once it was tried again for ``timeout`` seconds.
     """
-    book = BookFile(fspath(path))
+    book = BookFile.of(path)
     return waited(lambda: _tables(book), timeout)
 
 
 def read_version(path: StrPath) -> int:
     """The version of the book in a closed file, whose other contents aren't judged."""
-    book = BookFile(fspath(path))
+    book = BookFile.of(path)
     with contents(book) as database:
         try:
             return opening.version_in(database)
@@ -84,9 +83,9 @@ def contents(book: BookFile) -> Iterator[sqlite3.Connection]:
 @contextmanager
 def _database(book: BookFile, file: BinaryIO) -> Iterator[sqlite3.Connection]:
     """What a file holds, with what stands in the log beside it, while nobody writes either."""
-    log = log_path(book.path)
+    log = book.log
     if not has_work(log):
-        with closing(_reader(real_path(book.path), True)) as database:
+        with closing(_reader(book.real, True)) as database:
             yield database
         return
     with _copied(book, file, log) as copied:

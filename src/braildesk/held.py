@@ -19,7 +19,7 @@ from braildesk.opening import (
     take_shared,
     why_no_log,
 )
-from braildesk.protocol.asked import BookFile, log_path, real_path
+from braildesk.protocol.asked import BookFile, log_path
 from braildesk.protocol.sentences import Why
 from braildesk.refusals import CannotOpen, Refused, cannot_open
 from braildesk.text import limits
@@ -29,6 +29,7 @@ from braildesk.workshop import (
     create,
     give_access,
     give_list,
+    place_of,
 )
 from braildesk.writers import has_more_writers
 
@@ -45,13 +46,13 @@ def held(book: BookFile, flags: int = os.O_RDONLY) -> Iterator[BinaryIO]:
         if not is_at_path(book, file):
             # another one was put there in this moment
             raise cannot_open(book, Why.IN_USE)
-        if not are_kept(real_path(book.path), file):
+        if not are_kept(book.real, file):
             raise cannot_open(book, Why.NO_LOCKS)
-        if no_log := why_no_log(log_path(book.path)):
+        if no_log := why_no_log(book.log):
             raise cannot_open(book, no_log)
-        if has_journal(book.path):
+        if has_journal(book.real):
             raise cannot_open(book, Why.JOURNAL)
-        if is_log_used(log_path(book.path)):
+        if is_log_used(book.log):
             raise cannot_open(book, Why.LOG_IN_USE)
         yield file
 
@@ -63,13 +64,12 @@ def open_file(book: BookFile, flags: int = os.O_RDONLY) -> BinaryIO:
     if not opening.is_file_or_free(book.path):
         raise cannot_open(book, Why.NO_FILE)
     try:
-        # a pipe at the path isn't waited for
-        file = open(
-            os.open(real_path(book.path), flags | os.O_NONBLOCK),
-            "r+b" if flags == os.O_RDWR else "rb",
-            buffering=0,
-        )
+        # a pipe at the path isn't waited for, nor is a link followed that is put there by now
+        with place_of(book.real) as place:
+            file = place.opened(flags)
     except OSError:
+        if book.is_led_away:
+            raise cannot_open(book, Why.LED_AWAY) from None
         raise cannot_open(book, opening.why(book)) from None
     found = os.fstat(file.fileno())
     if not stat.S_ISREG(found.st_mode) or found.st_nlink > 1:
@@ -87,11 +87,12 @@ def fit_log(book: BookFile) -> None:
     What stands there is taken into the book. ``CannotOpen`` where such a log has work, of which nobody
     knows whose it is, or can't be removed. One of one's own gets the mode that the book has by now.
     """
-    path, name = Path(real_path(book.path)), Path(log_path(book.path)).name
+    path, name = Path(book.real), Path(book.log).name
     if not os.access(path, os.W_OK):
         return
-    with suppress(OSError, ValueError), _folder(path.parent) as folder:
+    with suppress(OSError, ValueError), place_of(book.real) as place:
         # both lie in one folder, whatever is put in its place meanwhile
+        folder = place.folder
         with alone(folder, path.name) as file:
             _remove_unfit(book, folder, name, file)
             _begin_log(folder, name, file)
@@ -150,15 +151,6 @@ def _access(found: os.stat_result) -> tuple[int, int]:
     return found.st_mode & 0o777, found.st_gid
 
 
-@contextmanager
-def _folder(path: Path) -> Iterator[int]:
-    folder = os.open(path, os.O_PATH | os.O_DIRECTORY | os.O_CLOEXEC)
-    try:
-        yield folder
-    finally:
-        os.close(folder)
-
-
 def alone(folder: int, name: str) -> BinaryIO:
     """A regular file with one name, OSError for anything else."""
     flags = os.O_RDONLY | os.O_NOFOLLOW | os.O_NONBLOCK | os.O_CLOEXEC
@@ -181,7 +173,7 @@ def _refuse_other(found: os.stat_result) -> None:
 def is_at_path(book: BookFile, file: BinaryIO) -> bool:
     """Whether a file that was opened is the one that stands at the path of the book."""
     try:
-        found = os.stat(real_path(book.path))
+        found = os.stat(book.real, follow_symlinks=False)
         return os.path.samestat(found, os.fstat(file.fileno()))
     except OSError:
         return False

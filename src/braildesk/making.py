@@ -334,7 +334,7 @@ def copy(
     ``only_books``, if it begins as a book and isn't seen to be another database; no session can open
     it meanwhile. While a session has one of them open, this is tried again for ``timeout`` seconds.
     """
-    book, named = BookFile(fspath(path)), fspath(to)
+    book, named = BookFile.of(path), fspath(to)
     is_replaced = _may_be_book if only_books else lambda path, file: True
     replaces = is_replaced if overwrite else None
     return waited(lambda: _copied(book, named, replaces, program), timeout)
@@ -346,7 +346,7 @@ def _copied(
     try:
         with held(book) as source, _claimed(source, named, replaces) as target:
             with made_beside(target.path) as made:
-                copied = copy_held(source, log_path(book.path), made)
+                copied = copy_held(source, book.log, made)
                 version = _checked(made, copied, book, named, program)
                 _put(made, target, _finish(source, made, copied))
     except FileIsThere:

@@ -14,7 +14,6 @@ from braildesk import program as programs
 from braildesk.held import copy_held
 from braildesk.opening import MAGIC, has_work, is_log, is_used
 from braildesk.program import StrPath
-from braildesk.protocol.asked import real_path
 from braildesk.refusals import Failed, Unopened
 from braildesk.watch import Watch
 from braildesk.workshop import (
@@ -73,7 +72,7 @@ class OpenFile:
 
     def __init__(self, path: str) -> None:
         #: Where the path leads.
-        self.path = real_path(path)
+        self.path = path
         self._descriptor: int | None = None
         self._was_database = False
         #: The most bytes that were found in it.
@@ -94,8 +93,8 @@ class OpenFile:
         self._is_filled = False
         if os.path.isfile(self.path):
             try:
-                # a pipe that stands there by now isn't waited for
-                self._descriptor = os.open(self.path, os.O_RDONLY | os.O_NONBLOCK)
+                # a pipe that stands there by now isn't waited for, nor is a link followed
+                self._descriptor = os.open(self.path, _READ)
             except OSError:
                 return  # the program says why
             self._was_database = self._is_database(self._descriptor)

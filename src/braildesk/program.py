@@ -33,8 +33,7 @@ from braildesk.protocol.asked import (
     Pages,
     Refusal,
     TableFile,
-    log_path,
-    real_path,
+    seen,
 )
 from braildesk.protocol.codes import Code
 from braildesk.protocol.sentences import ENDED_BY, Why, said_of_room
@@ -142,7 +141,7 @@ def check(
     While another program has the book open, this is tried again for ``timeout`` seconds. While the
     program doesn't answer, ``while_waiting`` is called again and again, here and below.
     """
-    asked = BookFile(fspath(path))
+    asked = BookFile.of(path)
     words = ["check", "--", _word(asked)]
     answer = waited(
         lambda: _run(program, words, asked, while_waiting=while_waiting), timeout
@@ -190,7 +189,7 @@ def _of_export(
     path: StrPath, volume: int, width: int, lines: int
 ) -> tuple[Pages, list[str]]:
     """What an export asks for, and its words."""
-    asked = Pages(fspath(path), volume, width, lines)
+    asked = Pages(fspath(path), volume, width, lines, led_to=seen(path).led_to)
     if not 1 <= volume <= limits.PARAGRAPHS:
         raise refused(Code.NO_VOLUME, asked)
     if not (_is_within(width, limits.WIDTHS) and _is_within(lines, limits.PAGE_LINES)):
@@ -239,9 +238,9 @@ def translate_beside(
     return [_answered(line, answers) for line in judged]
 
 
-def session_words(path: StrPath, program: StrPath | None = None) -> list[str]:
+def session_words(book: BookFile, program: StrPath | None = None) -> list[str]:
     """The words that start a session with the book in a file."""
-    return [find(program), "session", "--", _word(BookFile(fspath(path)))]
+    return [find(program), "session", "--", _word(book)]
 
 
 def cannot_run(program: str, error: OSError) -> NoProgram:
@@ -269,17 +268,23 @@ def judge(asked: AskedOfFile, program: str) -> None:
     """
     if isinstance(asked, TableFile):
         return
+    if asked.is_led_away:
+        raise cannot_open(asked, Why.LED_AWAY)
     _judge_file(asked)
     try:
         fault = _fault_of(asked, program)
         if fault is None:
-            fit_log(BookFile(asked.path))
+            fit_log(_book_of(asked))
     except CannotOpen as refusal:
         fault = refusal.why if refusal.why in _NOT_ASKED else None
     except (OSError, ValueError):
         return
     if fault is not None:
         raise cannot_open(asked, fault)
+
+
+def _book_of(asked: AskedOfFile) -> BookFile:
+    return BookFile(asked.path, led_to=asked.led_to)
 
 
 def _judge_file(asked: AskedOfFile) -> None:
@@ -291,7 +296,7 @@ def _judge_file(asked: AskedOfFile) -> None:
     try:
         found = os.stat(asked.path)
         size = found.st_size if stat.S_ISREG(found.st_mode) else None
-        is_alone = not has_work(log_path(asked.path))
+        is_alone = not has_work(asked.log)
     except (OSError, ValueError):
         return
     if size == 0 and is_alone and not isinstance(asked, NewBook):
@@ -304,8 +309,8 @@ def _judge_file(asked: AskedOfFile) -> None:
 
 def _fault_of(asked: AskedOfFile, program: str) -> Why | None:
     """What is seen of the files of a book that keeps it from being opened."""
-    path, log = real_path(asked.path), log_path(asked.path)
-    with held(BookFile(asked.path)):
+    path, log = asked.real, asked.log
+    with held(_book_of(asked)):
         fault = fault_in(path, is_alone=True)
         is_foreign = fault is None and is_of_others(path)
     if fault not in _NOT_A_BOOK and has_work(log):
@@ -322,7 +327,7 @@ def _fault_with_log(asked: AskedOfFile, log: str, program: str) -> Why | None:
     What isn't a book with it is refused by that: the program would put the log into the file first.
     """
     with made_for_a_while() as both, made_for_a_while() as alone:
-        with held(BookFile(asked.path)) as file:
+        with held(_book_of(asked)) as file:
             copy_held(file, log, both)
             copy_held(file, "", alone)
         changes = changes_in(f"{both}-wal")
@@ -514,10 +519,18 @@ def _word(asked: AskedOfFile) -> str:
     word = opening.word(asked.path)
     if word is None:
         raise cannot_open(asked, Why.NO_PATH)
+    if asked.led_to and not _is_whole_path(word, asked.led_to):
+        # what is put in the place of a link by now isn't followed
+        word = opening.word(asked.led_to) or word
     if not opening.is_file_or_free(word):
         raise cannot_open(asked, Why.NO_FILE)
     # SQLite takes such a path for an address, and another one for no file at all
     return f"./{word}" if word.startswith(("file:", ":")) else word
+
+
+def _is_whole_path(word: str, path: str) -> bool:
+    """Whether a word is a path without a link, as it is or from the folder in which this runs."""
+    return word == path or not os.path.isabs(word) and path == f"{os.getcwd()}/{word}"
 
 
 def _is_within(number: int, limit: tuple[int, int]) -> bool:

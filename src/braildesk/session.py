@@ -9,7 +9,6 @@ from collections.abc import Callable, Generator, Iterable, Iterator, Sequence
 from contextlib import contextmanager
 from dataclasses import replace
 from itertools import zip_longest
-from os import fspath
 from types import TracebackType
 from typing import TYPE_CHECKING, Any, Self, TypeVar
 
@@ -73,7 +72,7 @@ class Session(Asking):
         timeout: float = 0.0,
         while_waiting: Callable[[], None] = lambda: None,
     ) -> None:
-        self._book = BookFile(fspath(path))
+        self._book = BookFile.of(path)
         self._program = program
         self._while_waiting = while_waiting
         self._pipe, self._file, self._seen = waited(self._open, timeout)
@@ -258,7 +257,7 @@ class Session(Asking):
             except BaseException:
                 file.close()
                 raise
-            if file.is_at_its_path:
+            if file.is_at_its_path and not self._book.is_led_away:
                 file.note()
                 file.note_log()
                 return pipe, file, version

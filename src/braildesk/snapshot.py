@@ -18,7 +18,7 @@ from typing import BinaryIO
 from braildesk.held import copy_held, is_at_path, open_file
 from braildesk.opening import why_no_log
 from braildesk.program import StrPath
-from braildesk.protocol.asked import AskedOfFile, BookFile, log_path
+from braildesk.protocol.asked import AskedOfFile, BookFile
 from braildesk.protocol.sentences import Why
 from braildesk.refusals import Failed, Refused, cannot_open, refused_as
 from braildesk.session import Session
@@ -40,7 +40,7 @@ def snapshot(path: StrPath) -> Iterator[Path]:
     It holds every command that was kept before this was called, and maybe some that were kept
     meanwhile. Nothing is made or changed beside the book's file, and nobody has to wait.
     """
-    book = BookFile(fspath(path))
+    book = BookFile.of(path)
     with ExitStack() as stack:
         try:
             copied = stack.enter_context(made_for_a_while())
@@ -91,7 +91,7 @@ def _copy(book: BookFile, copied: Path) -> None:
 
 def _is_copied(book: BookFile, file: BinaryIO, copied: Path) -> bool:
     """Copies a file and its log, and says whether the log wasn't emptied nor the file replaced."""
-    log = log_path(book.path)
+    log = book.log
     if no_log := why_no_log(log):
         raise cannot_open(book, no_log)
     try:

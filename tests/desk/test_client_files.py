@@ -28,6 +28,7 @@ from braildesk import (
     Failed,
     NotABook,
     NotCopied,
+    NotFound,
     NotMade,
     Refused,
     Session,
@@ -1589,9 +1590,16 @@ def test_a_link_put_in_place_of_a_book_that_is_opened_leads_the_program_nowhere(
     )
     for deed in deeds:
         with swapped(tmp_path, lambda: name, to) as program:
-            with pytest.raises(Refused) as refused:
-                deed(program)
-        assert str(path) in refused.value.sentence
+            if way == "a link to it":
+                # what it led to at first is opened, which has no volume
+                with suppress(NotFound):
+                    opened = deed(program)
+                    if isinstance(opened, Session):
+                        opened.close()
+            else:
+                with pytest.raises(Refused) as refused:
+                    deed(program)
+                assert str(path) in refused.value.sentence
         assert other.read_bytes() == b"" and names(private) == {"book"}
         name.unlink()
         name.with_name(f"{name.name}-kept").rename(name)

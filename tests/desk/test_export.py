@@ -409,7 +409,7 @@ def test_whatever_stands_at_the_path_by_then_volumes_are_for_those_of_the_book_t
 def test_a_book_that_is_another_one_whenever_it_was_read_is_not_exported(
     moon: Path, monkeypatch: pytest.MonkeyPatch
 ) -> None:
-    read = export.export
+    read = braildesk.export
 
     def swapped(*words: Any, **more: Any) -> bytes:
         pages = read(*words, **more)

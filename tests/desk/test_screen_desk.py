@@ -21,9 +21,11 @@ from scribe.screen.background import ActionResult, done_in_background
 from scribe.screen.desk import Desk
 from scribe.screen.field import Field, Purpose
 from scribe.screen.state import Pages, Size
+from scribe.words.links import followed
 from scribe.words.preview import Preview, Tables
 from sitting import Sat, Sit
 from stand_in import KEPT, KILL_PROGRAM
+from strangers import NEEDS_ROOT, STRANGER
 from terminal import standing_in
 from tool import ROOT
 
@@ -53,6 +55,21 @@ def closed(sat: Sat) -> Path:
     """Ends, and gives the book for another session."""
     sat.desk.close()
     return sat.desk.path
+
+
+@NEEDS_ROOT
+def test_a_link_of_another_user_by_which_the_book_is_named_is_said_first(
+    moon: Path,
+) -> None:
+    link = moon.with_name("link")
+    link.symlink_to(moon)
+    os.chown(link, STRANGER, -1, follow_symlinks=False)
+    desk = Desk(followed(link))
+    state = desk.first_state(Size(80, 24), None, False)
+    desk.close()
+    assert state.message.startswith(
+        f"“{link}” is a link of another user, and leads to “{moon}”."
+    )
 
 
 def test_the_book_is_shown_as_it_is_opened(reader: Sat) -> None:

@@ -4,10 +4,13 @@ import fcntl
 import hashlib
 import io
 import os
+import shutil
 import subprocess
 import sys
+import time
 from collections.abc import Callable
 from contextlib import suppress
+from io import BytesIO, StringIO
 from pathlib import Path
 
 import pytest
@@ -23,6 +26,8 @@ from braildesk.refusals import cannot_open
 
 from scribe.cli import run_words
 from scribe.words.console import WAITING, Console
+from scribe.words.status import Status
+from strangers import NEEDS_ROOT, as_stranger, lead_to
 from terminal import once_free
 from tool import environment, scribe
 
@@ -195,3 +200,63 @@ def test_seconds_are_numbers() -> None:
     assert errors.getvalue().startswith(
         "Argument --wait: 'soon' is no number of seconds."
     )
+
+
+@NEEDS_ROOT
+@pytest.mark.parametrize("way", ["the book", "its folder"])
+@pytest.mark.parametrize(
+    "name, words",
+    [
+        ("change", ("1", "moon", "sun")),
+        ("show", ("1",)),
+        ("run", ()),
+        ("talk", ("--width", "400")),
+        ("export", ("pages",)),
+        ("proof", ("page.html",)),
+        ("copy", ("copied",)),
+    ],
+)
+def test_a_link_that_another_user_puts_there_while_a_command_waits_leads_it_nowhere(
+    moon: Path,
+    tmp_path: Path,
+    monkeypatch: pytest.MonkeyPatch,
+    name: str,
+    words: tuple[str, ...],
+    way: str,
+) -> None:
+    books, private = tmp_path / "shared" / "books", tmp_path / "private"
+    books.mkdir(parents=True)
+    private.mkdir(mode=0o700)
+    book, other = books / moon.name, private / moon.name
+    shutil.copyfile(moon, book)
+    shutil.copyfile(moon, other)
+    for folder in (books, books.parent):
+        folder.chmod(0o777)
+    lead_to(books)
+    named = book if way == "the book" else books
+
+    def swap() -> None:
+        named.rename(f"{named}-kept")
+        named.symlink_to(other if way == "the book" else private)
+
+    holder = Session(book)
+
+    def swapped(_: float) -> None:
+        if not named.is_symlink():
+            assert as_stranger(swap) == ""
+            holder.close()
+
+    monkeypatch.setattr(time, "sleep", swapped)
+    monkeypatch.chdir(tmp_path)
+    shown, said = StringIO(), StringIO()
+    data = BytesIO(b"change 1 moon sun\n")
+    asked = [name, str(book), *words, "--wait", "20"]
+    status = run_words(asked, Console(data, shown, said))
+    assert (status, shown.getvalue()) == (Status.REFUSED, "")
+    assert said.getvalue() == (
+        f"A link was put in the place of “{book}”, or on the way to it, while that was being opened. It"
+        " may be another user's, and nothing was opened through it. Nothing was changed. See"
+        " where it leads, and who put it there.\n"
+    )
+    assert sorted(os.listdir(private)) == [moon.name]
+    assert not {"pages", "page.html", "copied"} & set(os.listdir(tmp_path))

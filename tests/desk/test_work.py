@@ -27,10 +27,10 @@ WORDS = "far away"
 #: How many of our modules are imported, and how many in all, at most.
 MODULES = {
     "--help": (20, 101),
-    "show": (58, 154),
-    "marks": (55, 152),
-    "find": (56, 153),
-    "import": (73, 180),
+    "show": (59, 155),
+    "marks": (56, 153),
+    "find": (57, 154),
+    "import": (74, 181),
 }
 #: Modules that take as long as all of a short command, and are needed by few.
 DEAR = {

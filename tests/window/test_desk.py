@@ -23,6 +23,7 @@ from braildesk.desk.layout import PageSize
 from braildesk.text.spans import Span
 
 from scribe.window import dialogs
+from scribe.window.actions import Actions
 from scribe.window.book import Contents, OpenBook
 from scribe.window.desk import Desk
 from scribe.window.held import Held
@@ -30,6 +31,7 @@ from scribe.window.worker import Worker
 from scribe.words.console import Console
 from scribe.words.drafts import typed_at_offer
 from scribe.words.import_text import Outcome, import_in_words
+from scribe.words.links import followed
 from scribe.words.status import Stop
 
 from conftest import wait
@@ -494,3 +496,21 @@ def test_the_message_says_that_the_program_is_waited_for_until_it_answers(
     waiting, before = "Waiting for braildesk to answer.", "Kept: paragraph 1."
     assert said == [(waiting, True), (before, False)]
     assert desk.window.focusWidget() is desk.window.print
+
+
+@pytest.mark.skipif(os.geteuid() != 0, reason="only root can act as two persons")
+def test_a_link_of_another_user_by_which_the_book_is_named_is_said_first(
+    application: QApplication, moon: Path
+) -> None:
+    link = moon.with_name("link")
+    link.symlink_to(moon)
+    os.chown(link, 65_534, -1, follow_symlinks=False)
+    desk = Desk(followed(link), None, 0.0, PageSize())
+    actions = Actions(desk)
+    desk.acts = actions.by_name
+    desk.begin()
+    actions.offer()
+    desk.close()
+    assert desk.window.message.text.startswith(
+        f"“{link}” is a link of another user, and leads to “{moon}”."
+    )

@@ -4,7 +4,6 @@ import os
 import re
 from collections.abc import Callable, Iterable, Iterator, Sequence
 from dataclasses import dataclass
-from os import fspath
 from pathlib import Path
 from typing import TypeVar
 
@@ -367,7 +366,7 @@ def export_pages(
 
 def _with_access(job: Job, read: Callable[[], _Found]) -> tuple[_Found, Access]:
     """What is read of a book, and the access of the file that has its path before and after that."""
-    book = BookFile(fspath(job.read_at))
+    book = BookFile.of(job.read_at)
     for _ in range(TRIES):
         with open_file(book) as file:
             found = read()

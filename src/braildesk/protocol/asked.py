@@ -4,8 +4,10 @@ Where the program finds the file of a book, its log and another program's journa
 """
 
 import os
-from dataclasses import dataclass
-from typing import TYPE_CHECKING, Any, TypeAlias
+from dataclasses import dataclass, field
+from os import PathLike, fspath
+from pathlib import PosixPath
+from typing import TYPE_CHECKING, Any, Self, TypeAlias
 
 from braildesk.protocol.sentences import Why
 from braildesk.protocol.value import Value
@@ -27,10 +29,32 @@ class AskedOfFile(Value):
     """What names a file."""
 
     path: str
+    #: Where the path led when it was first looked at; nothing if that isn't known.
+    led_to: str = field(default="", kw_only=True, compare=False)
+
+    @property
+    def real(self) -> str:
+        """Where the path leads, whatever link is put there after it was looked at."""
+        return self.led_to or real_path(self.path)
+
+    @property
+    def log(self) -> str:
+        """The log beside the file."""
+        return f"{self.real}-wal"
+
+    @property
+    def is_led_away(self) -> bool:
+        """Whether a link was put on the way to the file after that was looked at."""
+        return bool(self.led_to) and real_path(self.led_to) != self.led_to
 
 
 class BookFile(AskedOfFile):
     """The file of a book."""
+
+    @classmethod
+    def of(cls, path: str | PathLike[str]) -> Self:
+        """The file of a path, from now on where that leads by now."""
+        return cls(fspath(path), led_to=seen(path).led_to)
 
 
 class NewBook(AskedOfFile):
@@ -80,6 +104,32 @@ class Refusal(Value):
     count: int | None = None
     #: For how many bytes there is room on the disk, if that was looked up and is little.
     room: int | None = None
+
+
+class SeenPath(PosixPath):
+    """A path with where it led when it was looked at, which no path that is made of it has."""
+
+    led_to = ""
+    #: A link of another user by which it leads there, and where that leads.
+    link = "", ""
+
+    @classmethod
+    def of(cls, path: str | PathLike[str], led_to: str) -> Self:
+        """A path of which it is known where it leads."""
+        found = cls(path)
+        found.led_to = led_to
+        return found
+
+
+def seen(path: str | PathLike[str]) -> SeenPath:
+    """A path that was looked at, now unless it was before."""
+    if isinstance(path, SeenPath) and path.led_to:
+        return path
+    try:
+        return SeenPath.of(path, real_path(fspath(path)))
+    except (OSError, ValueError):
+        # why it leads nowhere is said where it is opened
+        return SeenPath(path)
 
 
 def real_path(path: str) -> str:

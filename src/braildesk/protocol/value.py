@@ -1,6 +1,7 @@
 """What dataclasses that never change have in common: by what two are equal, and how one is shown."""
 
-from collections.abc import Iterable
+from dataclasses import Field
+from typing import Any
 
 
 class Value:
@@ -23,5 +24,5 @@ class Value:
 
 
 def _fields(value: Value) -> dict[str, object]:
-    names: Iterable[str] = getattr(value, "__dataclass_fields__")
-    return {name: getattr(value, name) for name in names}
+    its: dict[str, Field[Any]] = getattr(value, "__dataclass_fields__")
+    return {name: getattr(value, name) for name, each in its.items() if each.compare}

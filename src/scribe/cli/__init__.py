@@ -85,24 +85,18 @@ def run_words(words: Sequence[str], console: Console) -> Status:
 
 
 def _of_link(arguments: Namespace) -> str:
-    """What is said of a link of another user by which the words name a book; nothing if none does."""
-    book = getattr(arguments, "file", None)
-    if book is None or not hasattr(arguments, "wait"):
+    """What is said of a link of another user by which the words name a book; nothing if none does.
+
+    The book is the one to which its path leads now, whatever is put there later.
+    """
+    if getattr(arguments, "file", None) is None or not hasattr(arguments, "wait"):
         # no book is opened by these words
         return ""
     # imported here, since what only shows help needs none of it
-    from braildesk.protocol.asked import real_path
-    from braildesk.workshop import OthersLink, own_path
+    from scribe.words.links import followed, led
 
-    try:
-        own_path(str(book))
-    except OthersLink as found:
-        to = real_path(found.link)
-        return f"“{found.link}” is a link of another user, and leads to “{to}”."
-    except (OSError, ValueError):
-        # it is said where the book is opened
-        pass
-    return ""
+    arguments.file = followed(arguments.file)
+    return led(arguments.file)
 
 
 def main() -> int:

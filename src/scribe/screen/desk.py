@@ -117,6 +117,7 @@ from scribe.words.drafts import (
     taken_back_in_part,
     where_typed,
 )
+from scribe.words.links import led
 from scribe.words.paragraph import counted, part_of
 from scribe.words.preview import Preview, Tables
 from scribe.words.status import Interrupted, Stop, in_sentences, of_system
@@ -224,7 +225,8 @@ class Desk:
         state = reminded(self.drafts, self._session, state)
         state = with_changes(self.drafts, self._session, state)
         back = taken_back_in_part(self.drafts, state.version)
-        return refreshed(self._session, state.saying_too(back))
+        state = saying_first(led(self.path), state.saying_too(back))
+        return refreshed(self._session, state)
 
     def press(self, state: State, key: str) -> State:
         """The state after a key, once what it asks for was answered."""

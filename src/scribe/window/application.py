@@ -32,6 +32,7 @@ from scribe.window.desk import Desk
 from scribe.window.dialogs import choice
 from scribe.window.held import Held
 from scribe.window.window import title_of
+from scribe.words.links import followed
 from scribe.words.status import Interrupted
 
 # what Qt says before it ends the process because the X server, or the compositor, is gone
@@ -84,7 +85,7 @@ class Application:
         self._ended_by: signal.Signals | None = None
         # a screen reader listens from the first question on, and hears of keys before they are held
         held = Held()
-        self._desk = Desk(path or _chosen(), by, wait, page_size, held)
+        self._desk = Desk(path or followed(_chosen()), by, wait, page_size, held)
         actions = Actions(self._desk)
         self._desk.acts = actions.by_name
         self._offer = actions.offer

@@ -25,6 +25,7 @@ from scribe.words.drafts import (
     words_wait,
 )
 from scribe.words.import_text import came_to, not_seen
+from scribe.words.links import led
 from scribe.words.paragraph import quoted
 
 
@@ -75,7 +76,8 @@ class Offers:
 
     def _read(self) -> str:
         """Reads what waits from before, and gives what is said of it before anything is asked."""
-        desk, said = self.desk, list[str]()
+        desk = self.desk
+        said = [led(desk.path)] if led(desk.path) else []
         # at once, before anything is kept of what is pressed meanwhile
         for read in (desk.drafts.take_in, desk.unsent.read):
             try:
