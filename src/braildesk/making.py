@@ -93,6 +93,11 @@ def _new_book(
 ) -> None:
     if opening.word(asked.path) is None:
         raise cannot_open(asked, Why.NO_PATH)
+    if asked.path.endswith("/") and not os.path.isdir(asked.path):
+        raise NotMade(
+            f"“{asked.path}” ends in a slash, as only the path of a folder does. Nothing was made. Take"
+            " the path of a file."
+        )
     if _leads_nowhere(asked.path):
         raise NotMade(
             f"“{asked.path}” is a link that leads to no file. Nothing was made. Remove the link, or"

@@ -57,7 +57,7 @@ from strangers import (
     in_time,
     lead_to,
 )
-from tool import WAIT_SECONDS
+from tool import WAIT_SECONDS, scribe
 
 ROOT = Path(__file__).parents[2]
 #: The number of an entry that names no user and no group.
@@ -1535,6 +1535,22 @@ def test_an_empty_file_becomes_a_book_for_those_whom_the_umask_leaves(
     finally:
         os.umask(before)
     assert stat.S_IMODE(empty.stat().st_mode) == 0o640
+
+
+def test_no_book_is_made_at_the_path_of_a_folder_that_is_not_there(
+    tmp_path: Path,
+) -> None:
+    with pytest.raises(NotMade) as caught:
+        braildesk.new_book(f"{tmp_path}/sub/")
+    assert caught.value.sentence == (
+        f"“{tmp_path}/sub/” ends in a slash, as only the path of a folder does. Nothing was made. Take the"
+        " path of a file."
+    )
+    ran = scribe("new", "sub/", folder=tmp_path)
+    assert ran.said.splitlines()[0] == (
+        "Argument FILE: sub/ ends in a slash, as only the path of a folder does."
+    )
+    assert (ran.status, names(tmp_path)) == (1, set())
 
 
 @contextmanager

@@ -1,6 +1,7 @@
 """The words of the command line: a parser that speaks in sentences, and what its words are."""
 
 import argparse
+import os
 import re
 from collections.abc import Callable, Sequence
 from dataclasses import dataclass, replace
@@ -200,9 +201,9 @@ def add_file(
     """
     says = f"the file of the book{without}"
     if without:
-        parser.add_argument("file", metavar="FILE", type=Path, nargs="?", help=says)
+        parser.add_argument("file", metavar="FILE", type=_file, nargs="?", help=says)
     else:
-        parser.add_argument("file", metavar="FILE", type=Path, help=says)
+        parser.add_argument("file", metavar="FILE", type=_file, help=says)
     parser.add_argument(
         "--wait",
         metavar="SECONDS",
@@ -212,6 +213,17 @@ def add_file(
         f" {wait or 0:g} if it isn't given"
         + (f", or {USUAL_WAIT:g} to change it" if wait is None else ""),
     )
+
+
+def _file(word: str) -> Path:
+    """The path of a file; what opens it says of one that is there that it is a folder."""
+    path = word.rstrip("/")
+    is_beside = os.path.isdir(os.path.dirname(path) or ".")
+    if path not in ("", word) and is_beside and not os.path.lexists(path):
+        raise argparse.ArgumentTypeError(
+            f"{word} ends in a slash, as only the path of a folder does"
+        )
+    return Path(word)
 
 
 def add_paragraph(parser: Parser, in_hand: bool = False) -> None:
