@@ -335,3 +335,14 @@ def test_random_tables_and_prints_are_taken_as_by_the_program(
         assert (
             not {it.chosen.line for it in found if isinstance(it.chosen, Rule)} & never
         )
+
+
+def test_of_a_table_of_too_many_lines_none_is_read_after_the_one_that_is_refused() -> (
+    None
+):
+    reading = read(b"letter a 1\n" + b"always aa 1\n" * 100_000)
+    assert len(reading.lines) == 20_001
+    assert reading.faults[-1].line == 20_001
+    # what is defined after that isn't known to be lacking
+    late = b"always b 1\n" * 20_001 + b"letter b 1\n"
+    assert [fault.line for fault in read(late).faults[-1:]] == [20_001]

@@ -65,9 +65,10 @@ class Reading:
 def read(text: bytes) -> Reading:
     """Reads the text of a table."""
     reader = _Reader()
-    raw = text.removeprefix(_MARK).split(b"\n")
-    if not raw[-1]:
-        raw.pop()
+    # of a text that is too long no line is read after the one that is refused for that
+    raw = text.removeprefix(_MARK).split(b"\n", limits.TABLE_LINES + 1)
+    if not raw[-1] or len(raw) > limits.TABLE_LINES + 1:
+        reader.hides_some = bool(raw.pop())
     lines = [reader.line(n, line.removesuffix(b"\r")) for n, line in enumerate(raw, 1)]
     reader.judge_needed()
     ordered = sorted(reader.faults, key=lambda fault: (fault.line, fault.cause))
