@@ -772,6 +772,28 @@ def test_what_is_kept_is_kept_for_another_book_but_for_what_can_not_be_read(
     assert other.cut() == "far away"
 
 
+def test_what_is_typed_on_at_a_lost_book_replaces_nothing_that_others_type_where_it_was_saved(
+    moon: Path,
+) -> None:
+    own, other = Drafts(moon), Drafts(moon.with_name("other.braildesk"))
+    first, on, theirs, next_of_theirs = (
+        replace(NOTE, text=text) for text in ("One.", "One, two.", "Theirs.", "Next.")
+    )
+    own.put_by(NOTE)
+    own.save(first)
+    own.copy_to(other.book)
+    assert (other.waiting(), other.given_up()) == (first, (NOTE,))
+    own.save(on)
+    own.copy_to(other.book)
+    assert (other.waiting(), other.given_up()) == (on, (NOTE,))
+    other.put_by(theirs)
+    other.save(next_of_theirs)
+    own.put_by(first)
+    own.copy_to(other.book)
+    assert other.waiting() == on
+    assert set(other.given_up()) == {first, theirs, NOTE, next_of_theirs}
+
+
 @pytest.mark.parametrize(
     "done, said",
     [

@@ -127,6 +127,8 @@ class Drafts:
         self._folder = OwnFolder(state_folder())
         # what is kept once the book is moved away, as with its folder, is known by this
         self._file = identity_of(self.book)
+        #: The text that waits and was copied for another book.
+        self._copied: Draft | None = None
 
     @property
     def place(self) -> Path:
@@ -442,14 +444,30 @@ class Drafts:
         with suppress(NotKept):
             if before and not self.waiting() and other.waiting() == before:
                 other.clear()
+        self._add_to(other, before)
         for what in Begun:
             # what can't be read or kept there is kept for this book still
-            with suppress(NotSuch, OSError, NotSaved):
+            with suppress(NotSuch, OSError, NotKept):
+                if what is Begun.GIVEN_UP and other.given_up():
+                    continue
                 data = self._folder.read(self._name(what))
                 if data is not None:
                     other._write(
                         what, Record.of(data).without("book", "file", "generation")
                     )
+
+    def _add_to(self, other: "Drafts", before: Draft | None) -> None:
+        """Gives up, for another book, the texts of this one beside those that were typed there meanwhile."""
+        with suppress(NotKept):
+            theirs = other.given_up()
+            for each in reversed(self.given_up() if theirs else ()):
+                if each.text not in (its.text for its in theirs):
+                    other.put_by(each)
+        with suppress(NotKept):
+            ours, waiting = self.waiting(), other.waiting()
+            if ours and waiting and waiting not in (ours, before, self._copied):
+                other.put_by(waiting)
+            self._copied = ours
 
     def _is_of(self, name: str, identity: Identity, is_open: bool) -> bool:
         """Whether a file was kept for this book, at a path where it isn't looked for any more.
