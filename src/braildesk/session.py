@@ -242,8 +242,14 @@ class Session(Asking):
         from braildesk.files import open_tables
 
         self._settle()
-        with self._file.opened() as file:
-            found = open_tables(self._book, file)
+        try:
+            with self._file.opened() as file:
+                found = open_tables(self._book, file)
+        except OSError:
+            # as by a link that stands there by now
+            if self._file.is_at_its_path:
+                raise
+            raise self._displaced() from None
         if not self._file.is_at_its_path:
             raise self._displaced()
         return found

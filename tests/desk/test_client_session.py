@@ -1587,3 +1587,13 @@ def test_a_file_that_is_replaced_once_its_session_has_ended_is_not_called_lost(
         book.name,
         f"{book.name}-wal",
     }
+
+
+def test_tables_that_are_read_where_a_link_stands_by_now_end_the_session(
+    book: Path,
+) -> None:
+    session = Session(book)
+    book.rename(f"{book}-kept")
+    book.symlink_to(f"{book}-kept")
+    with pytest.raises(Displaced):
+        session.tables()
