@@ -10,8 +10,10 @@ from pathlib import Path
 import pytest
 
 import braildesk
-from braildesk import CannotOpen, Failed, NoProgram, Refused, Session, Why
+from braildesk import CannotOpen, Failed, NoProgram, Refused, Session, Table, Why
 from braildesk.program import exporting
+from braildesk.protocol.asked import TableFile
+from braildesk.refusals import cannot_open
 
 ROOT = Path(__file__).parents[2]
 
@@ -105,6 +107,23 @@ def test_what_else_is_lacking_for_the_program_to_be_run_is_named(
         f"The program “{braildesk.find()}” can't be run: {tmp_path / 'null'}: No such file or"
         " directory."
     )
+
+
+@pytest.mark.parametrize(
+    "is_there, see",
+    [(True, "/proc is mounted"), (False, "/dev/fd leads to /proc/self/fd")],
+)
+def test_what_is_lacking_for_a_text_to_be_handed_over_is_named(
+    monkeypatch: pytest.MonkeyPatch, is_there: bool, see: str
+) -> None:
+    def refused(*_: object) -> bytes:
+        raise cannot_open(TableFile("/dev/fd/3"), Why.UNKNOWN)
+
+    monkeypatch.setattr("braildesk.program._run", refused)
+    monkeypatch.setattr(os.path, "lexists", lambda _: is_there)
+    with pytest.raises(Failed) as caught:
+        braildesk.translate(Table("en", b""), ["a"])
+    assert caught.value.sentence.endswith(f"Nothing was translated. See that {see}.")
 
 
 def test_a_program_that_answers_something_else_is_not_taken_for_braildesk(
