@@ -522,7 +522,8 @@ def _word(asked: AskedOfFile) -> str:
     if asked.led_to and not _is_whole_path(word, asked.led_to):
         # what is put in the place of a link by now isn't followed
         word = opening.word(asked.led_to) or word
-    if not opening.is_file_or_free(word):
+    # of what a process has open the number says so, and not where that leads
+    if not all(map(opening.is_file_or_free, {asked.path, word})):
         raise cannot_open(asked, Why.NO_FILE)
     # SQLite takes such a path for an address, and another one for no file at all
     return f"./{word}" if word.startswith(("file:", ":")) else word

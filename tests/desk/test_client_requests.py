@@ -163,7 +163,9 @@ VALUES: dict[str, object] = {
     "style": Style.HEADING,
     "begins": True,
 }
-OTHER_METHODS = {"ask", "reply", "each", "close", "tables", "take_over", "guard"}
+OTHER_METHODS = {
+    *("ask", "reply", "each", "close", "fileno", "tables", "take_over", "guard")
+}
 
 
 def test_a_session_has_a_method_for_each_request() -> None:
