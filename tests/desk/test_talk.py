@@ -341,6 +341,58 @@ def test_words_of_a_line_that_stand_more_than_once_are_asked_about(
     ]
 
 
+@pytest.mark.parametrize(
+    "line, nothing",
+    [
+        ("mark 1", "No mark was put."),
+        ("mark 1 a x", "No mark was put."),
+        ("mark\n1", "No mark was put."),
+        ("change 1", "Nothing was changed."),
+        ("change 1 a", "Nothing was changed."),
+        ("retable 1", "Nothing was changed."),
+    ],
+)
+def test_of_a_struck_paragraph_nothing_is_asked_that_is_refused(
+    moon: Path, line: str, nothing: str
+) -> None:
+    with braildesk.Session(moon) as session:
+        session.strike(1)
+    given = f"{line}\nversion\n"
+    ran = scribe("talk", moon.name, "--width", "80", folder=moon.parent, given=given)
+    assert ran.said == f"Paragraph 1 is struck. {nothing} Restore it first.\n"
+    _, *shown = ran.shown.splitlines()
+    # the answer to version, and the end
+    assert shown[-2:] == ["The book is at version 8."] * 2
+    assert shown[:-2] in (
+        [],
+        ["Which paragraph? Type its number. An empty line gives up."],
+    )
+
+
+@pytest.mark.parametrize(
+    "line, first",
+    [
+        ("mark 1 zz", "“zz” isn't in paragraph 1. Nothing was changed."),
+        ("change 1 zz", "“zz” isn't in paragraph 1. Nothing was changed."),
+        (
+            "change 1 a --nth 9",
+            "Paragraph 1 has “a” 3 times. There is no place 9. Nothing was changed.",
+        ),
+    ],
+)
+def test_of_words_that_do_not_stand_there_nothing_more_is_asked(
+    moon: Path, line: str, first: str
+) -> None:
+    given = f"{line}\nversion\n"
+    ran = scribe("talk", moon.name, "--width", "80", folder=moon.parent, given=given)
+    assert ran.said.splitlines()[0] == first
+    assert ran.shown.splitlines()[1:] == [
+        "Paragraph 1: The moon is far away.",
+        "The book is at version 7.",
+        "The book is at version 7.",
+    ]
+
+
 def test_a_mark_is_put_on_words(talk: Prompted) -> None:
     talk.type("mark 2", ": ")
     talk.type("Tides", ": ")

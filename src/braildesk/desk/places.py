@@ -72,10 +72,17 @@ def place_in(
     try:
         return words.place(text)
     except ManyPlaces:
-        book = session.paragraphs()
-        if any(each.struck for each in book if each.id == words.paragraph):
-            raise refused(Code.STRUCK, asked) from None
+        judge_struck(session, words.paragraph, asked)
         raise
+
+
+def judge_struck(
+    session: Session, paragraph: int, asked: CommandOnParagraph[Any]
+) -> None:
+    """Refuses what is asked of a paragraph if that is struck."""
+    book = session.paragraphs()
+    if any(each.struck for each in book if each.id == paragraph):
+        raise refused(Code.STRUCK, asked) from None
 
 
 def cells_of(session: Session, paragraph: int, words: Span) -> Span:

@@ -25,6 +25,7 @@ from scribe.words.console import (
 
 if TYPE_CHECKING:
     from braildesk.desk.ranges import ParagraphRange
+    from braildesk.protocol.requests import CommandOnParagraph
 
 # The object on which a command calls add_parser.
 Subparsers = Any
@@ -95,6 +96,8 @@ class Asked:
     stands: bool = False
     #: Whether the mark that is dealt with says which it is.
     in_hand: bool = False
+    #: Of a paragraph: what is refused if it is struck.
+    if_struck: "Callable[[int], CommandOnParagraph[Any]] | None" = None
 
 
 class Parser(argparse.ArgumentParser):
@@ -154,12 +157,14 @@ class Parser(argparse.ArgumentParser):
         short: str = "",
         stands: bool = False,
         in_hand: bool = False,
+        if_struck: "Callable[[int], CommandOnParagraph[Any]] | None" = None,
     ) -> None:
         """Adds a word that has to be there, with the question by which a prompt asks for it."""
         action = self.add_argument(
             name, metavar=metavar, type=argument(read), help=does
         )
-        asked = Asked(action, read, question, short or name, stands, in_hand)
+        short = short or name
+        asked = Asked(action, read, question, short, stands, in_hand, if_struck)
         self.asked.append(asked)
 
     def refuse(self, sentence: str) -> NoReturn:
@@ -226,8 +231,15 @@ def _file(word: str) -> Path:
     return Path(word)
 
 
-def add_paragraph(parser: Parser, in_hand: bool = False) -> None:
-    """Adds the word PARA: the number of a paragraph, as `arguments.paragraph`."""
+def add_paragraph(
+    parser: Parser,
+    in_hand: bool = False,
+    if_struck: "Callable[[int], CommandOnParagraph[Any]] | None" = None,
+) -> None:
+    """Adds the word PARA: the number of a paragraph, as `arguments.paragraph`.
+
+    At a prompt nothing more is asked for a request that is refused of a struck one.
+    """
     parser.add_asked(
         "paragraph",
         "PARA",
@@ -235,6 +247,7 @@ def add_paragraph(parser: Parser, in_hand: bool = False) -> None:
         "the number of the paragraph",
         "Which paragraph? Type its number.",
         in_hand=in_hand,
+        if_struck=if_struck,
     )
 
 

@@ -8,6 +8,7 @@ from typing import Any
 
 from braildesk import NotFound
 from braildesk.desk.marks import MarkOfBook
+from braildesk.desk.places import ManyPlaces, Words, judge_struck
 from braildesk.protocol.requests import BY_NAME, REQUESTS, Command
 from braildesk.text.characters import visible
 from braildesk.text.excerpt import excerpt_lines, opening_after
@@ -121,11 +122,11 @@ def command_answered(talk: Conversation, file: Path, name: str, rest: str) -> No
         _say_refused(talk, parser, refused)
         return
     talk.may_change = may_change(arguments)
-    _complete(talk, parser, arguments)
     console = as_asked(talk.console, arguments)
     try:
-        its.judge(arguments)
         with places_shown(console.columns):
+            _complete(talk, parser, arguments)
+            its.judge(arguments)
             outcome = its.answering()(talk.session, arguments, console)
     except WordsRefused as refused:
         _say_refused(talk, parser, refused)
@@ -157,8 +158,8 @@ def _complete(talk: Conversation, parser: Parser, arguments: Namespace) -> None:
         is_last = asked is parser.asked[-1]
         if asked.action.dest == "paragraph" and not is_last:
             _show_paragraph(talk, parser, arguments)
-        if asked.stands and arguments.nth is None:
-            arguments.nth = _which(talk, arguments.paragraph, given)
+        if asked.stands:
+            arguments.nth = _which(talk, parser, arguments, given)
 
 
 def _take_known(talk: Conversation, parser: Parser, arguments: Namespace) -> None:
@@ -202,10 +203,14 @@ def _reader(
 
 
 def _show_paragraph(talk: Conversation, parser: Parser, arguments: Namespace) -> None:
-    """Shows how a paragraph begins, or its mark in hand, if more will be asked for."""
+    """Shows how a paragraph begins, or its mark in hand, if more will be asked for.
+
+    What is refused of a struck one isn't asked for.
+    """
     if all(getattr(arguments, each.action.dest) is not None for each in parser.asked):
         return
     number, width, hand = arguments.paragraph, talk.console.columns, talk.hand
+    _judge_struck(talk, parser, number)
     head, text = f"Paragraph {number}: ", talk.session.print_of(number)
     if hand is not None and hand.paragraph == number and not hand.mark.resolved:
         start, stop = hand.mark.start, hand.mark.stop
@@ -214,12 +219,31 @@ def _show_paragraph(talk: Conversation, parser: Parser, arguments: Namespace) ->
         talk.console.show(opening_after(head, visible(text), width))
 
 
-def _which(talk: Conversation, paragraph: int, sought: str) -> int | None:
-    """In which of the places where words stand they are meant, counted from 1."""
+def _judge_struck(talk: Conversation, parser: Parser, number: int) -> None:
+    """Refuses a struck paragraph before more is asked for, where it is refused in any case."""
+    for asked in parser.asked:
+        if asked.if_struck is not None:
+            judge_struck(talk.session, number, asked.if_struck(number))
+
+
+def _which(
+    talk: Conversation, parser: Parser, arguments: Namespace, sought: str
+) -> int | None:
+    """In which of the places where words stand they are meant, counted from 1.
+
+    None if they stand just once. Raises `NoPlace`, and `ManyPlaces` if there is no nth place.
+    """
+    paragraph: int = arguments.paragraph
+    given: int | None = arguments.nth
     text = talk.session.print_of(paragraph)
-    places = find_spans(text, sought)
-    if len(places) < 2:
-        return None
+    try:
+        Words(paragraph, sought, given).place(text)
+        return given
+    except ManyPlaces as many:
+        if given is not None:
+            raise
+        places = many.places
+    _judge_struck(talk, parser, paragraph)
     for nth, place in enumerate(places, 1):
         talk.console.show(
             *excerpt_lines(

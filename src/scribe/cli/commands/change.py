@@ -5,6 +5,7 @@ from argparse import Namespace
 from braildesk import Session
 from braildesk.desk.change import change_words
 from braildesk.desk.places import Words
+from braildesk.protocol.requests import Correct
 
 from scribe.cli.book_command import BookCommand, add_nth
 from scribe.cli.parser import Parser, add_paragraph, add_width, argument
@@ -21,7 +22,7 @@ EXAMPLE = "scribe change moon.braildesk 1 'far away' 'very far away' --by anna"
 
 def add_words(parser: Parser) -> None:
     """Adds the words of `change`."""
-    add_paragraph(parser, in_hand=True)
+    add_paragraph(parser, True, lambda number: Correct(number, 0, 0, ""))
     parser.add_asked(
         "old", "OLD", words, "the words that go", "Which words go?", "old", stands=True
     )

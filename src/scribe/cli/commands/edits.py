@@ -1,10 +1,14 @@
 """The commands that send one request each, and show what it changed."""
 
 from collections.abc import Callable
+from typing import TYPE_CHECKING
 
 from scribe.cli.book_command import Answer, BookCommand
 from scribe.cli.parser import Parser, add_paragraph, add_width
 from scribe.words.typed import after, number, switch, words
+
+if TYPE_CHECKING:
+    from braildesk.protocol.requests import Retable
 
 
 def edit(
@@ -58,8 +62,15 @@ def _add_after(parser: Parser) -> None:
     )
 
 
+def _retabled(number: int) -> "Retable":
+    # imported here, since a shell has no need of it
+    from braildesk.protocol.requests import Retable
+
+    return Retable(number, "")
+
+
 def _add_table(parser: Parser) -> None:
-    add_paragraph(parser)
+    add_paragraph(parser, if_struck=_retabled)
     parser.add_asked(
         "table",
         "NAME",

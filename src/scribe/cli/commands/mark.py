@@ -5,6 +5,7 @@ from argparse import Namespace
 from braildesk import Session
 from braildesk.desk.marks import mark_words
 from braildesk.desk.places import Words
+from braildesk.protocol.requests import Mark
 from braildesk.text.excerpt import excerpt_lines
 
 from scribe.cli.book_command import BookCommand, add_nth
@@ -23,7 +24,7 @@ EXAMPLE = "scribe mark moon.braildesk 1 far 'how far?'"
 
 def add_words(parser: Parser) -> None:
     """Adds the words of `mark`."""
-    add_paragraph(parser)
+    add_paragraph(parser, if_struck=lambda number: Mark(number, 0, 0, ""))
     parser.add_asked(
         "words",
         "WORDS",
