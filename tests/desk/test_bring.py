@@ -168,6 +168,29 @@ def test_a_file_that_cannot_be_written_is_said(tmp_path: Path) -> None:
     )
 
 
+@pytest.mark.parametrize(
+    ("name", "said"),
+    [
+        ("Small braille", ["Small braille is the table small.utb."]),
+        ("Smallish", ["Smallish is the table small.utb."]),
+        ("small.utb", []),
+        ("SMALL", []),
+    ],
+)
+def test_which_table_was_meant_is_said_if_it_was_not_named_by_its_file(
+    tmp_path: Path, name: str, said: list[str]
+) -> None:
+    (tmp_path / "tables").mkdir()
+    path = small(tmp_path / "tables")
+    head = "#-index-name: Smallish\n#-display-name: Small braille\n#+language: qaa\n\n"
+    path.write_text(head + path.read_text())
+    tables = str(tmp_path / "tables")
+    ran = scribe("bring", name, "out.utb", folder=tmp_path, LOUIS_TABLEPATH=tables)
+    assert ran.status == 0
+    assert ran.said.splitlines()[: len(said)] == said
+    assert ran.said.count("is the table") == len(said)
+
+
 def test_what_is_not_replaced_is_said_and_refused(tmp_path: Path) -> None:
     (tmp_path / "out.utb").symlink_to("/dev/null")
     words = ("bring", small(tmp_path), "out.utb", "--overwrite")

@@ -13,6 +13,8 @@ TABLES = {
     "de-g0.utb": ("de", "German, uncontracted", "German uncontracted braille"),
     "de-g2.ctb": ("de", "German, contracted", "German contracted braille"),
     "Fi-g1.utb": ("fi", "Finnish", "Finnish braille"),
+    "sk-g1.ctb": ("sk", "Slovak", "Slovak braille"),
+    "sk-sk.utb": ("sk", "", ""),
 }
 
 
@@ -39,6 +41,7 @@ def folder(tmp_path: Path, monkeypatch: pytest.MonkeyPatch) -> Path:
         ("german, uncontracted", "de-g0.utb"),
         ("Finnish", "Fi-g1.utb"),
         ("da", "da-g1.utb"),
+        ("Slovak braille", "sk-g1.ctb"),
     ],
 )
 def test_a_table_is_found_by_what_people_call_it(
@@ -49,6 +52,19 @@ def test_a_table_is_found_by_what_people_call_it(
 
 def test_a_file_is_found_by_its_path(folder: Path) -> None:
     assert named_table(str(folder / "de-g2.ctb")) == folder / "de-g2.ctb"
+
+
+@pytest.mark.parametrize("name", ["Slovak", "sk"])
+def test_no_table_of_several_is_meant_by_their_language(
+    folder: Path, name: str
+) -> None:
+    with pytest.raises(NoTable) as found:
+        named_table(name)
+    assert str(found.value).splitlines() == [
+        f"2 tables are called {name}. Name one of these:",
+        "  sk-g1.ctb                Slovak braille",
+        "  sk-sk.utb",
+    ]
 
 
 def test_a_language_of_several_tables_names_them(folder: Path) -> None:

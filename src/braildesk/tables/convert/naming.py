@@ -37,6 +37,12 @@ def named_table(name: str) -> Path:
     raise _none(name)
 
 
+def is_named_by_file(name: str, table: Path) -> bool:
+    """Whether the name of a table is a path, or that of its file with or without the ending."""
+    its = Path(name).name.casefold()
+    return its in (table.name.casefold(), table.stem.casefold())
+
+
 def of_language(word: str, tables: Sequence[Shipped]) -> list[Shipped]:
     """The tables of a language, by its code or its English name."""
     folded = word.casefold()
@@ -61,7 +67,10 @@ def _called(name: str, tables: Sequence[Shipped]) -> list[Shipped]:
 
 
 def _names(table: Shipped) -> tuple[str, ...]:
-    names = (table.name, table.path.stem, table.title, table.index)
+    names = [table.name, table.path.stem, table.title]
+    # an index may call one of several tables by the language alone
+    if table.index != _language_name(table):
+        names.append(table.index)
     return tuple(one.casefold() for one in names if one)
 
 

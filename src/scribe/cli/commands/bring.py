@@ -17,7 +17,11 @@ from braildesk.tables.convert.conversion import (
     Options,
     convert,
 )
-from braildesk.tables.convert.naming import named_table, of_language
+from braildesk.tables.convert.naming import (
+    is_named_by_file,
+    named_table,
+    of_language,
+)
 from braildesk.tables.convert.oracle import NoLiblouis
 from braildesk.tables.convert.shipped import Measured, measured_tables, shipped_tables
 from braildesk.tables.convert.source import NoTable
@@ -32,13 +36,14 @@ from scribe.words.status import Status, Stop, left_there, may_not_last, status_o
 
 MORE = """\
 TABLE is a table that liblouis has, by its name, as de-g0.utb or de-g0, or its title, or a
-file. Its characters and rules are read, with all that it includes, and liblouis is asked
-for the cells of each character in its places. The text is then compared with liblouis,
-through the program, on lines that were not used for making it. It is written to FILE, or
-to standard output, if at least half of the lines agree, and 99 of 100 of those that don't
-need what a table of braildesk can't have (passages of capitals, several passes, computer
-braille). What could not be carried over stands in comments at the top of the text. The text
-is under the licence of the table that it was made from.
+language if it has no other table, or a file. Its characters and rules are read, with all
+that it includes, and liblouis is asked for the cells of each character in its places. The
+text is then compared with liblouis, through the program, on lines that were not used for
+making it. It is written to FILE, or to standard output, if at least half of the lines
+agree, and 99 of 100 of those that don't need what a table of braildesk can't have
+(passages of capitals, several passes, computer braille). What could not be carried over
+stands in comments at the top of the text. The text is under the licence of the table that
+it was made from.
 With --for MANUSCRIPT rules are learned besides, by asking liblouis, from a list of words
 and from the words of a text, a document or a book, so that a contracted table writes it
 as liblouis does. What differs still is said with its causes: such a table is to be proofread.
@@ -148,6 +153,8 @@ def run(arguments: Namespace, console: Console) -> Status:
     try:
         table = named_table(arguments.table)
         _judge_file(table, arguments)
+        if not is_named_by_file(arguments.table, table):
+            console.say(f"{arguments.table} is the table {table.name}.")
         if arguments.manuscript is not None:
             return _for_manuscript(table, arguments, console)
         brought = convert(table, Options(arguments.words, add=arguments.add))
