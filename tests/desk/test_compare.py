@@ -103,18 +103,23 @@ def test_a_text_that_is_none_is_refused(moon: Path, text: bytes, sentence: str) 
     assert (ran.status, ran.shown) == (2, "")
     assert ran.said.startswith(sentence)
     assert ran.said.endswith("Save it as UTF-8. Nothing was compared.\n")
-    ran = scribe("compare", moon, "nothing.txt", folder=moon.parent)
-    assert (ran.status, ran.shown) == (3, "")
-    assert "nothing.txt" in ran.said
 
 
-def test_of_a_manuscript_that_is_not_there_nothing_is_said_of_what_was_kept(
-    moon: Path,
+@pytest.mark.parametrize(
+    "text, why",
+    [
+        ("none.txt", "No such file or directory"),
+        (".", "Is a directory"),
+        ("/dev/null", "it is a device and no file"),
+    ],
+)
+def test_a_manuscript_that_cannot_be_read_is_refused(
+    moon: Path, text: str, why: str
 ) -> None:
-    said = "“none.txt” could not be read or written: No such file or directory.\n"
-    ran = scribe("compare", moon, "none.txt", folder=moon.parent)
-    assert ran == Ran(3, "", said)
-    ran = scribe("talk", moon, folder=moon.parent, given="compare none.txt\n")
+    said = f"{text} can't be read: {why}. Nothing was compared.\n"
+    ran = scribe("compare", moon, text, folder=moon.parent)
+    assert ran == Ran(2, "", said)
+    ran = scribe("talk", moon, folder=moon.parent, given=f"compare {text}\n")
     assert ran.said == said
 
 

@@ -21,6 +21,7 @@ from braildesk.desk.manuscript import (
     TextLine,
     Passage,
     Position,
+    UnreadableText,
     passages,
 )
 from braildesk.desk.import_note import How
@@ -37,19 +38,32 @@ if TYPE_CHECKING:
 _BOOK = b"SQLite format 3\0"
 
 
+class UnreadableFile(UnreadableText):
+    """The file of a manuscript can't be read."""
+
+    def __init__(self, cause: OSError) -> None:
+        super().__init__(cause)
+        self.cause = cause
+
+
 def read_manuscript(
     path: Path, reading: ReadingOptions = ReadingOptions(), wait: float = 0.0
 ) -> "Manuscript":
     """The paragraphs of a document, of a text, or of a book, there those aside that are struck.
 
-    `OSError` if the file can't be read, `UnreadableText` if it is no manuscript, and what a
-    session raises if it is a book that can't be opened. In a text blank lines part the
-    paragraphs. If nothing parts them, so that one is longer than any of a book, each of its lines
-    is a paragraph.
+    `UnreadableText` if the file can't be read or is no manuscript, and what a session raises if
+    it is a book that can't be opened. In a text blank lines part the paragraphs. If nothing parts
+    them, so that one is longer than any of a book, each of its lines is a paragraph.
     """
-    if reading.kind is None and not is_handed_over(path) and _is_book(path):
+    try:
+        if reading.kind is None and not is_handed_over(path) and _is_book(path):
+            data = None
+        else:
+            data = read_bytes(path)
+    except OSError as cause:
+        raise UnreadableFile(cause) from cause
+    if data is None:
         return _of_book(path, wait)
-    data = read_bytes(path)
     kind = reading.kind or kind_of(path.name, data)
     return manuscript_of(data, kind, reading, path.name)
 

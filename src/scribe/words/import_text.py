@@ -52,6 +52,7 @@ from braildesk.desk.manuscript import (
     TooManyPassages,
     UnreadableText,
 )
+from braildesk.desk.manuscripts import UnreadableFile
 from braildesk.desk.replacements import BadReplacements
 from braildesk.desk.typist import CutShort
 from braildesk.desk.unfinished import NotSeen, Unfinished
@@ -538,6 +539,8 @@ def unreadable(fault: UnreadableText) -> str:
         case NotConverted(name=name, said=said):
             why_not = f": {visible(said)}" if said else ", which doesn't say why"
             return f"can't be read by {name}{why_not.removesuffix('.')}"
+        case UnreadableFile(cause=cause):
+            return f"can't be read: {cause.strerror}"
         case NotRead():
             return "can't be read: pandoc says of it what scribe doesn't know"
         case TooManyPassages(most=most):
