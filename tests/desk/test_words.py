@@ -145,6 +145,13 @@ def test_the_version_is_shown(tmp_path: Path) -> None:
         ([], "The following arguments are required: COMMAND."),
         (["undo"], "The following arguments are required: FILE, PARA."),
         (["undo", "m", "x"], "Argument PARA: 'x' is not a number."),
+        *(
+            (
+                ["undo", "m", word],
+                f"Argument PARA: {word!r} is not a number in the digits 0 to 9 alone.",
+            )
+            for word in ("-3", "+1", "1.5", "1,000", "٣")
+        ),
         (["undo", "m", "1", "2"], "Unrecognized arguments: 2."),
         (["export", "m", "o", "--lin", "9"], "Unrecognized arguments: --lin 9."),
         (

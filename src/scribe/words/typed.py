@@ -19,6 +19,7 @@ _WORD = re.compile(
     re.DOTALL,
 )
 _ESCAPED = re.compile(r"\\(.)", re.DOTALL)
+_NUMERIC = re.compile(r"[-+]?\d[\d.,]*")
 _RANGE = re.compile(r"([0-9]+)?(?:(-)([0-9]+)?)?")
 #: The digits of a number in the requests of a book at most.
 _DIGITS = 16
@@ -45,7 +46,9 @@ class QuotedHyphen(str):
 def number(word: str) -> int:
     """The number that a word is: decimal digits, as the requests of a book have them."""
     if not (word.isascii() and word.isdigit()):
-        raise InvalidInput(f"{word!r} is not a number")
+        # a sign or a point is no digit, nor are the digits of other scripts
+        digits = " in the digits 0 to 9 alone" if _NUMERIC.fullmatch(word) else ""
+        raise InvalidInput(f"{word!r} is not a number{digits}")
     digits = word.lstrip("0")
     if len(digits) > _DIGITS or (found := int(digits or "0")) > limits.NUMBER:
         raise InvalidInput(f"{word} is too large a number")
