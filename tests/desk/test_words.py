@@ -170,7 +170,20 @@ def test_words_that_are_refused_are_explained(
     ran = scribe(*words, folder=tmp_path)
     first, usage = ran.said.splitlines()[:2]
     assert (ran.status, ran.shown, first) == (1, "", sentence)
-    assert usage.startswith("usage: scribe")
+    assert usage.startswith(" ".join(["usage: scribe", *words[:1]]))
+
+
+def test_a_word_that_may_be_left_out_is_taken_after_an_option(book: Path) -> None:
+    with Session(book) as session:
+        session.add_paragraph("end", "en", "Two men.")
+    for words in ("show {} --print 1", "show --print {} 1", "show {} 1 --print"):
+        ran = scribe(*words.format(book).split(), folder=book.parent)
+        assert ran == Ran(0, "Paragraph 1, body\nTwo men.\n", "")
+    ran = scribe("show", book, "--paragraphs", "1", "1", folder=book.parent)
+    assert (ran.status, ran.said.splitlines()[0]) == (
+        1,
+        "Argument PARAS: not allowed with argument --paragraphs.",
+    )
 
 
 @pytest.mark.parametrize(

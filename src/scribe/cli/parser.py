@@ -3,7 +3,8 @@
 import argparse
 import os
 import re
-from collections.abc import Callable, Sequence
+from collections.abc import Callable, Iterator, Sequence
+from contextlib import contextmanager
 from dataclasses import dataclass, replace
 from itertools import pairwise, takewhile
 from pathlib import Path
@@ -117,7 +118,10 @@ class Parser(argparse.ArgumentParser):
         )
 
     def parse_known_args(self, args: Any = None, namespace: Any = None) -> Any:
-        """Parses words, and refuses an option that can only be a text, where one would change nothing."""
+        """Parses words, none of which is left over.
+
+        An option that can only be a text is refused where one would change nothing.
+        """
         words, options = list(args or ()), self._option_string_actions
         after = words[words.index("--") + 1 :] if "--" in words else []
         taken = [each for each in after if each[:2] == "--" and each in options]
@@ -125,7 +129,26 @@ class Parser(argparse.ArgumentParser):
             self.refuse(
                 f"{taken[0]} stands after --, and isn't taken as an option there. Put it before --."
             )
-        return super().parse_known_args(args, namespace)
+        found, over = super().parse_known_args(args, namespace)
+        if over:
+            with self._left_out_taken():
+                found, over = super().parse_known_args(args, namespace)
+        if over:
+            # with the usage of the command
+            self.error(f"unrecognized arguments: {' '.join(over)}")
+        return found, over
+
+    @contextmanager
+    def _left_out_taken(self) -> Iterator[None]:
+        """Has a word that may be left out be taken after an option too, where argparse leaves it out."""
+        its = [each for each in self._get_positional_actions() if each.nargs == "?"]
+        for each in its:
+            each.nargs = None
+        try:
+            yield
+        finally:
+            for each in its:
+                each.nargs = "?"
 
     def _get_values(self, action: argparse.Action, arg_strings: list[str]) -> Any:
         # after those that end the options, two hyphens are a word as any, which argparse leaves out
