@@ -43,7 +43,14 @@ def ran(words: Sequence[str]) -> Ran:
 
 
 def check_said(found: Ran, name: str) -> None:
-    """Looks at whether a command ended by a status for what failed, and a sentence."""
+    """Looks at whether a command ended by a status for what failed, and a sentence.
+
+    An empty word is refused as one.
+    """
+    if found.status == 1:
+        first = found.said.splitlines()[0]
+        assert first.endswith(": it is empty, which is no path."), (name, found)
+        return
     assert found.status in (2, 3), (name, found)
     assert "Errno" not in found.said, (name, found)
     assert found.said.endswith(".\n"), (name, found)
@@ -81,7 +88,6 @@ ODD = (
 FINE = {
     ("a folder", "pages"),
     ("not UTF-8", "pages"),
-    ("nothing", "pages"),
     ("not UTF-8", "copy.braildesk"),
     ("not UTF-8", "other.utb"),
     ("a loop", "other.utb"),

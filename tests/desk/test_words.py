@@ -152,6 +152,11 @@ def test_the_version_is_shown(tmp_path: Path) -> None:
             )
             for word in ("-3", "+1", "1.5", "1,000", "٣")
         ),
+        (["show", ""], "Argument FILE: it is empty, which is no path."),
+        (["copy", "m", ""], "Argument TO: it is empty, which is no path."),
+        (["import", "m", ""], "Argument TEXT: it is empty, which is no path."),
+        (["compare", "m", ""], "Argument TEXT: it is empty, which is no path."),
+        (["table", "m", "en", ""], "Argument TEXT: it is empty, which is no path."),
         (["undo", "m", "1", "2"], "Unrecognized arguments: 2."),
         (["export", "m", "o", "--lin", "9"], "Unrecognized arguments: --lin 9."),
         (

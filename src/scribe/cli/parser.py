@@ -251,7 +251,7 @@ def _file(word: str) -> Path:
         raise argparse.ArgumentTypeError(
             f"{word} ends in a slash, as only the path of a folder does"
         )
-    return Path(word)
+    return file_path(word)
 
 
 def add_paragraph(
@@ -326,6 +326,7 @@ number = argument(typed.number)
 text = argument(typed.text)
 words = argument(typed.words)
 after = argument(typed.after)
+file_path = argument(typed.file_path)
 
 
 def seconds(word: str) -> float:
@@ -367,10 +368,10 @@ def readable(word: str) -> Path:
     # imported here, since few commands name another file than a book
     from braildesk.named_files import is_handed_over
 
-    path = Path(word)
+    its = file_path(word)
     try:
-        is_file = path.is_file() or is_handed_over(path)
-        is_there = is_file or path.exists()
+        is_file = its.is_file() or is_handed_over(its)
+        is_there = is_file or its.exists()
     except (OSError, ValueError) as cause:
         why = (isinstance(cause, OSError) and cause.strerror) or cause
         raise argparse.ArgumentTypeError(f"{word} can't be read: {why}") from cause
@@ -378,7 +379,7 @@ def readable(word: str) -> Path:
         raise argparse.ArgumentTypeError(f"there is no file {word}")
     if not is_file:
         raise argparse.ArgumentTypeError(f"{word} is there, but is no file")
-    return path
+    return its
 
 
 def add_width(parser: argparse.ArgumentParser) -> None:

@@ -155,6 +155,19 @@ def path_word(path: Path | str) -> str:
     return f"./{word}" if word.startswith("-") else word
 
 
+def file_path(word: str) -> Path:
+    """The path that a word is, which is not empty."""
+    if not word:
+        # it would be the folder in which scribe was started
+        raise InvalidInput("it is empty, which is no path")
+    return Path(word)
+
+
+def given_path(word: str) -> Path:
+    """The path that was typed where one has to be."""
+    return typed_path(str(file_path(word)))
+
+
 def typed_path(word: str) -> Path:
     """The path that was typed, with ~ as the person's folder.
 

@@ -29,7 +29,13 @@ from braildesk.tables.convert.tailoring import Manuscript, tailor
 from braildesk.workshop import MayNotLast
 
 from scribe.cli.opened_book import as_kept
-from scribe.cli.parser import Subparsers, WordsRefused, command_parser, readable
+from scribe.cli.parser import (
+    Subparsers,
+    WordsRefused,
+    command_parser,
+    readable,
+    file_path,
+)
 from scribe.words.console import Console
 from scribe.words.import_text import unreadable
 from scribe.words.status import Status, Stop, left_there, may_not_last, status_of
@@ -88,7 +94,11 @@ def add_parser(subparsers: Subparsers) -> ArgumentParser:
         "table", metavar="TABLE", nargs="?", help="the table, by its name or its file"
     )
     parser.add_argument(
-        "file", metavar="FILE", nargs="?", type=Path, help="where the text is written"
+        "file",
+        metavar="FILE",
+        nargs="?",
+        type=file_path,
+        help="where the text is written",
     )
     parser.add_argument(
         "--list",

@@ -1,12 +1,11 @@
 """`scribe check-table`: what is wrong with the text of a table, and what is rarely meant."""
 
 from argparse import ArgumentParser, Namespace
-from pathlib import Path
 
 from braildesk.tables import Reading, TableText, Warning, text_at, warnings
 from braildesk.text.wrapping import wrap
 
-from scribe.cli.parser import Subparsers, add_width, command_parser
+from scribe.cli.parser import Subparsers, add_width, command_parser, file_path
 from scribe.words.console import Console
 from scribe.words.status import Status
 from scribe.words.tables import counted, fault_lines, warning_lines
@@ -32,7 +31,9 @@ def add_parser(subparsers: Subparsers) -> ArgumentParser:
         EXAMPLE,
         MORE,
     )
-    parser.add_argument("table", metavar="TABLE", type=Path, help="the table's file")
+    parser.add_argument(
+        "table", metavar="TABLE", type=file_path, help="the table's file"
+    )
     parser.add_argument(
         "--display",
         action="store_true",

@@ -16,7 +16,7 @@ from scribe.words.compare import Count, left_out
 from scribe.words.console import Console
 from scribe.words.import_text import unreadable
 from scribe.words.status import Stop
-from scribe.words.typed import typed_path
+from scribe.words.typed import given_path
 
 MORE = """\
 Each line has a paragraph of the book, where in it a word stands, and what the manuscript
@@ -31,7 +31,7 @@ def add_words(parser: Parser) -> None:
     parser.add_asked(
         "text",
         "TEXT",
-        typed_path,
+        given_path,
         "the manuscript",
         "Which manuscript? Type its path.",
         "path",

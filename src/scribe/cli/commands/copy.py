@@ -10,7 +10,7 @@ from braildesk.named_files import is_same_file
 from braildesk.protocol.asked import BookFile
 from braildesk.snapshot import snapshot
 
-from scribe.cli.parser import Subparsers, add_file, command_parser
+from scribe.cli.parser import Subparsers, add_file, command_parser, file_path
 from scribe.words.console import Console
 from scribe.words.status import Status, Stop
 
@@ -30,7 +30,7 @@ def add_parser(subparsers: Subparsers) -> ArgumentParser:
         MORE,
     )
     add_file(parser, wait=0.0)
-    parser.add_argument("to", metavar="TO", type=Path, help="the file of the copy")
+    parser.add_argument("to", metavar="TO", type=file_path, help="the file of the copy")
     parser.add_argument(
         "--overwrite",
         action="store_true",

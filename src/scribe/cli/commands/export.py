@@ -3,7 +3,6 @@
 from argparse import ArgumentParser, Namespace
 from collections.abc import Sequence
 from dataclasses import replace
-from pathlib import Path
 
 from braildesk import CannotOpen, Why
 from braildesk.desk.export import Job
@@ -17,6 +16,7 @@ from scribe.cli.parser import (
     argument,
     command_parser,
     number,
+    file_path,
 )
 from scribe.words.console import Console
 from scribe.words.export import export_in_words, pages_in_words
@@ -43,7 +43,7 @@ def add_parser(subparsers: Subparsers) -> ArgumentParser:
     parser = command_parser(subparsers, "export", EXAMPLE, MORE)
     add_file(parser)
     parser.add_argument(
-        "folder", metavar="FOLDER", type=Path, help="where the volumes are written"
+        "folder", metavar="FOLDER", type=file_path, help="where the volumes are written"
     )
     add_page_size(parser)
     which = parser.add_mutually_exclusive_group()

@@ -17,6 +17,7 @@ from scribe.cli.parser import (
     command_parser,
     number,
     readable,
+    file_path,
 )
 from scribe.words.console import Console
 from scribe.words.import_text import import_in_words, trial_in_words
@@ -45,7 +46,7 @@ def add_parser(subparsers: Subparsers) -> ArgumentParser:
     parser = command_parser(subparsers, "import", EXAMPLE, MORE)
     add_file(parser)
     parser.add_argument(
-        "text", metavar="TEXT", type=Path, help="the text file, or a document"
+        "text", metavar="TEXT", type=file_path, help="the text file, or a document"
     )
     parser.add_argument("--lines", action="store_true", help="each line is a paragraph")
     parser.add_argument(
@@ -105,7 +106,7 @@ def _add_choices(parser: ArgumentParser) -> None:
     parser.add_argument(
         "--report",
         metavar="REPORT",
-        type=Path,
+        type=file_path,
         help="write all that is lost of a document to this file, which replaces an older report"
         " and nothing else",
     )

@@ -3,7 +3,6 @@
 import re
 from argparse import ArgumentParser, ArgumentTypeError, Namespace
 from collections.abc import Iterable, Iterator
-from pathlib import Path
 
 from braildesk.desk.proof import ProofPage, open_marks, proof_pages
 from braildesk.desk.whole_file import (
@@ -17,7 +16,7 @@ from braildesk.workshop import MayNotLast
 
 from scribe.cli.opened_book import looked_at
 from scribe.cli.page_size import add_page_size, page_size_of
-from scribe.cli.parser import Subparsers, add_file, command_parser
+from scribe.cli.parser import Subparsers, add_file, command_parser, file_path
 from scribe.words.console import Console
 from scribe.words.pages import not_exported
 from scribe.words.proof_html import Proof, elsewhere, is_proof
@@ -39,7 +38,9 @@ def add_parser(subparsers: Subparsers) -> ArgumentParser:
     """Adds the words of `proof`."""
     parser = command_parser(subparsers, "proof", EXAMPLE, MORE)
     add_file(parser, wait=0.0)
-    parser.add_argument("proof", metavar="PROOF", type=Path, help="the file of HTML")
+    parser.add_argument(
+        "proof", metavar="PROOF", type=file_path, help="the file of HTML"
+    )
     add_page_size(parser)
     for word, does in (
         ("--print-first", "the print above the cells"),

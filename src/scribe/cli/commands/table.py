@@ -6,10 +6,10 @@ from braildesk import Session
 from braildesk.desk.tables import table_request
 
 from scribe.cli.book_command import BookCommand
-from scribe.cli.parser import Parser, add_width
+from scribe.cli.parser import Parser, add_width, argument
 from scribe.words.changes import carried_out
 from scribe.words.console import Console
-from scribe.words.typed import typed_path, words
+from scribe.words.typed import given_path, words
 
 MORE = """\
 TEXT is the file of the table. Without it NAME is one of the tables that are installed
@@ -31,7 +31,11 @@ def add_words(parser: Parser) -> None:
         "Which name does the table have in the book?",
     )
     parser.add_argument(
-        "text", metavar="TEXT", type=typed_path, nargs="?", help="the file of the table"
+        "text",
+        metavar="TEXT",
+        type=argument(given_path),
+        nargs="?",
+        help="the file of the table",
     )
     add_width(parser)
 

@@ -3,14 +3,13 @@
 from argparse import ArgumentParser, Namespace
 from contextlib import AbstractContextManager, nullcontext
 from dataclasses import dataclass
-from pathlib import Path
 
 from braildesk import DeskError, Failed
 from braildesk.text.sequences import composed
 from braildesk.text.wrapping import columns, wrap
 
 from scribe.cli.own_modules import hold_modules
-from scribe.cli.parser import Subparsers, add_width, command_parser
+from scribe.cli.parser import Subparsers, add_width, command_parser, file_path
 from scribe.prompt.trial import Trial
 from scribe.prompt.typed_lines import (
     Due,
@@ -83,7 +82,9 @@ class _Talk:
 def add_parser(subparsers: Subparsers) -> ArgumentParser:
     """Adds the words of `try`."""
     parser = command_parser(subparsers, "try", EXAMPLE, MORE)
-    parser.add_argument("table", metavar="TABLE", type=Path, help="the table's file")
+    parser.add_argument(
+        "table", metavar="TABLE", type=file_path, help="the table's file"
+    )
     add_width(parser)
     return parser
 
