@@ -60,6 +60,18 @@ def test_a_mark_at_the_front_and_ends_of_other_systems_are_no_text(book: Path) -
     assert prints(book) == ["The moon is far.", "Tides"]
 
 
+@pytest.mark.parametrize(
+    "option, things", [("--from", "lines and paragraphs"), ("--volumes", "levels")]
+)
+def test_nothing_is_counted_from_0(book: Path, option: str, things: str) -> None:
+    ran = put(book, TEXT, option, "0")
+    assert (ran.status, ran.said.splitlines()[0]) == (
+        1,
+        f"Argument {option}: {things} are counted from 1.",
+    )
+    assert version(book) == 1
+
+
 def test_a_dry_run_types_nothing(book: Path) -> None:
     assert put(book, TEXT, "--dry-run") == Ran(
         0, "3 paragraphs would be typed, by the table en.\n", ""

@@ -1,6 +1,6 @@
 """Commands on a book: at a shell each opens the book, and at the prompt of `talk` it is open."""
 
-from argparse import ArgumentParser, ArgumentTypeError, Namespace
+from argparse import ArgumentParser, Namespace
 from collections.abc import Callable
 from contextlib import AbstractContextManager, nullcontext
 from dataclasses import dataclass
@@ -8,7 +8,7 @@ from typing import TYPE_CHECKING, TypeAlias
 
 from braildesk.desk import USUAL_WAIT
 
-from scribe.cli.parser import Parser, Subparsers, add_file, command_parser, number
+from scribe.cli.parser import Parser, Subparsers, add_file, command_parser, counted
 from scribe.words.console import Console
 from scribe.words.status import Status
 
@@ -85,13 +85,6 @@ def add_nth(parser: ArgumentParser, words: str) -> None:
     parser.add_argument(
         "--nth",
         metavar="N",
-        type=_counted_from_one,
+        type=counted("places"),
         help=f"the Nth place, where {words} stands more than once",
     )
-
-
-def _counted_from_one(word: str) -> int:
-    nth = number(word)
-    if nth == 0:
-        raise ArgumentTypeError("places are counted from 1")
-    return nth

@@ -329,6 +329,18 @@ after = argument(typed.after)
 file_path = argument(typed.file_path)
 
 
+def counted(things: str) -> Callable[[str], int]:
+    """What reads the number of a thing, of which the first is 1."""
+
+    def read_number(word: str) -> int:
+        found = number(word)
+        if found == 0:
+            raise argparse.ArgumentTypeError(f"{things} are counted from 1")
+        return found
+
+    return read_number
+
+
 def seconds(word: str) -> float:
     """The seconds that a word is: decimal digits, with a point among them or not."""
     if not (word.isascii() and word.replace(".", "", 1).isdigit() and len(word) <= 8):

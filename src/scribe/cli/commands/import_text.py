@@ -15,7 +15,7 @@ from scribe.cli.parser import (
     add_file,
     after,
     command_parser,
-    number,
+    counted,
     readable,
     file_path,
 )
@@ -68,7 +68,7 @@ def add_parser(subparsers: Subparsers) -> ArgumentParser:
         "--from",
         dest="line",
         metavar="LINE",
-        type=number,
+        type=counted("lines and paragraphs"),
         help="begin at this line, or this paragraph of a document",
     )
     _add_choices(parser)
@@ -87,7 +87,7 @@ def _add_choices(parser: ArgumentParser) -> None:
     parser.add_argument(
         "--volumes",
         metavar="LEVEL",
-        type=number,
+        type=counted("levels"),
         help="begin a volume at each heading of this level, which is usually 1",
     )
     parser.add_argument(
