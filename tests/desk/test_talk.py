@@ -108,6 +108,12 @@ def test_a_refusal_is_a_sentence_and_the_talk_goes_on(talk: Prompted) -> None:
         "fields, and none at the end. Nothing was",
         "changed.",
     ]
+    assert talk.type("style 1 title") == [
+        "The request style is written as: style",
+        "PARA STYLE. STYLE is body or heading.",
+        "One blank stands between fields, and",
+        "none at the end. Nothing was changed.",
+    ]
     assert talk.type("stryke 1") == [
         "There is no stryke. Did you mean strike?",
         "help says what can be typed.",

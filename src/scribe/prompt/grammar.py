@@ -3,6 +3,7 @@
 from dataclasses import replace
 from typing import Any
 
+from braildesk.protocol.fields import Choice
 from braildesk.protocol.requests import (
     BY_NAME,
     EXPECTED,
@@ -75,8 +76,8 @@ def _request(kind: type[Request[Any]], rest: str | None) -> Request[Any] | Table
         return kind.read(rest)
     except ValueError:
         raise NotARequest(
-            f"The request {kind.name} is written as: {kind.form()}.{_counting(kind)} One blank"
-            " stands between fields, and none at the end."
+            f"The request {kind.name} is written as: {kind.form()}.{_counting(kind)}"
+            f"{_choosing(kind)} One blank stands between fields, and none at the end."
         ) from None
 
 
@@ -84,6 +85,12 @@ def _counting(kind: type[Request[Any]]) -> str:
     """From where a request counts, if it has a place or a cell."""
     counted = [each.word for each in fields_of(kind).values() if each.word in _PLACES]
     return f" {counted[0]} is counted from 0." if counted else ""
+
+
+def _choosing(kind: type[Request[Any]]) -> str:
+    """The words of each field of a request that is one of a few."""
+    choices = [its for its in fields_of(kind).values() if isinstance(its, Choice)]
+    return "".join(f" {its.word} is {' or '.join(its.words)}." for its in choices)
 
 
 def _expecting(
