@@ -1,12 +1,14 @@
 """scribe check-table: faults and warnings of a table in words, with their lines."""
 
+import subprocess
+import sys
 from itertools import permutations, product
 from pathlib import Path
 
 import pytest
 
 from braildesk.tables import TableText, pieces, read, warnings
-from tool import Ran, scribe
+from tool import Ran, environment, scribe
 
 REFUSED = "braildesk refuses the table. Warnings come once it is accepted."
 ACCEPTED = "braildesk accepts the table."
@@ -260,3 +262,28 @@ def test_a_file_that_is_not_there_is_said(tmp_path: Path) -> None:
     assert ran == Ran(
         2, "", "There is no file “none.utb”. Check that the path is right.\n"
     )
+
+
+@pytest.mark.parametrize(
+    ("words", "name"),
+    [
+        ("/dev/stdin < own.utb", "Standard input"),
+        ("/dev/fd/0 < own.utb", "Standard input"),
+        ("<(cat own.utb)", "What the shell handed over"),
+        ("own.utb", "own.utb"),
+    ],
+)
+def test_what_the_shell_hands_over_is_called_so_and_not_by_its_number(
+    tmp_path: Path, words: str, name: str
+) -> None:
+    (tmp_path / "own.utb").write_text("space \\s 0\nletter a 1\n")
+    line = f"{sys.executable} -m scribe check-table {words}"
+    ran = subprocess.run(
+        ["bash", "-c", line],
+        cwd=tmp_path,
+        env=environment(),
+        capture_output=True,
+        text=True,
+        check=True,
+    )
+    assert ran.stdout == f"{name}: no faults, no warnings. {ACCEPTED}\n"

@@ -2,7 +2,9 @@
 
 from collections.abc import Iterator
 from itertools import groupby
+from pathlib import Path
 
+from braildesk.named_files import is_handed_over
 from braildesk.tables import (
     Definition,
     Fault,
@@ -17,6 +19,16 @@ from braildesk.text.characters import is_visible, shortened, visible
 
 
 _MOST_SHOWN = 200
+#: The ends of the names of standard input, as /dev/stdin and /dev/fd/0.
+_INPUT = ("stdin", "0")
+
+
+def named(path: Path) -> str:
+    """The name of a table's file at the front of a sentence."""
+    if not is_handed_over(path):
+        return path.name
+    # a number says nothing of what a shell hands over, as by <(command)
+    return "Standard input" if path.name in _INPUT else "What the shell handed over"
 
 
 def fault_lines(reading: Reading) -> Iterator[str]:

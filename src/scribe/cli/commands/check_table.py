@@ -8,7 +8,7 @@ from braildesk.text.wrapping import wrap
 from scribe.cli.parser import Subparsers, add_width, command_parser, file_path
 from scribe.words.console import Console
 from scribe.words.status import Status
-from scribe.words.tables import counted, fault_lines, warning_lines
+from scribe.words.tables import counted, fault_lines, named, warning_lines
 
 MORE = """\
 Each line that braildesk refuses is shown, with what is wrong with it. Where none is
@@ -50,7 +50,7 @@ def run(arguments: Namespace, console: Console) -> Status:
     found = [] if reading.faults else rare
     for line in [*fault_lines(reading), *warning_lines(found, reading)]:
         console.show(*wrap(line, console.columns, _INDENT))
-    summary = _summary(arguments.table.name, reading, found)
+    summary = _summary(named(arguments.table), reading, found)
     console.show(*wrap(summary, console.columns, _INDENT))
     return Status.REFUSED if reading.faults else Status.DONE
 
