@@ -235,6 +235,23 @@ def test_commands_that_are_said_take_names_with_a_line_feed(killed: Path) -> Non
     assert prints(killed.with_name(name)) == ["front", *LINES, "end"]
 
 
+def test_commands_that_are_said_stay_in_one_line_of_any_width(killed: Path) -> None:
+    name = "a book about the moon and the tides of all its seas.braildesk"
+    for ending in ("", "-wal"):
+        Path(f"{killed}{ending}").rename(killed.with_name(f"{name}{ending}"))
+    said = ran("show", "--print", "--width", "40", name).said.splitlines()
+    text = killed.parent / "text.txt"
+    assert said[-4:] == [
+        "Go on by:",
+        f"scribe import '{name}' {text} --continue",
+        "Leave the rest out by:",
+        f"scribe import '{name}' {text} --leave",
+    ]
+    words = shlex.split(said[-3])[1:]
+    assert ran(*words).status == 0
+    assert prints(killed.with_name(name)) == ["front", *LINES, "end"]
+
+
 def test_an_import_that_goes_on_from_a_line_is_done(killed: Path) -> None:
     assert again(killed, "--lines", "--after", "7", "--from", "6").status == 0
     assert prints(killed) == ["front", *LINES, "end"]

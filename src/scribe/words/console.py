@@ -8,7 +8,7 @@ from collections.abc import Callable, Iterable, Iterator
 from contextlib import contextmanager, suppress
 from dataclasses import dataclass, replace
 from io import StringIO
-from typing import BinaryIO, TextIO
+from typing import BinaryIO, Self, TextIO
 
 from braildesk.text import limits
 from braildesk.text.cells import Notation
@@ -27,6 +27,18 @@ USUAL_WIDTH = 80
 _INDENT = "  "
 # a line that a request may have, CR LF and one byte more
 _LINE = limits.LINE_BYTES + 3
+
+
+class Offered(str):
+    """A sentence that ends in a command, which stays in one line, as a shell has to be given it."""
+
+    #: How the sentence ends.
+    command: str
+
+    def __new__(cls, sentence: str, command: str) -> Self:
+        made = super().__new__(cls, f"{sentence} {command}")
+        made.command = command
+        return made
 
 
 class InputFailed(Exception):
@@ -169,11 +181,16 @@ class Console:
 
     def _lines(self, texts: Iterable[str], indent: str = "") -> Iterator[str]:
         """Texts in lines of the width, each with its ending."""
-        for text in map(visible, texts):
+        for each in texts:
+            text = visible(each)
             if self.width is None or columns(text) <= self.width:
                 yield text + "\n"
-            else:
-                yield from (line + "\n" for line in wrap(text, self.width, indent))
+                continue
+            whole = visible(each.command) if isinstance(each, Offered) else ""
+            before = text.removesuffix(whole)
+            yield from (line + "\n" for line in wrap(before, self.width, indent))
+            if whole:
+                yield whole + "\n"
 
     @contextmanager
     def ahead(self) -> Iterator["Console"]:

@@ -64,7 +64,7 @@ from braildesk.text.characters import visible
 from braildesk.text.excerpt import excerpt
 from braildesk.workshop import MayNotLast
 
-from scribe.words.console import Console
+from scribe.words.console import Console, Offered
 from scribe.words.drafts import not_kept
 from scribe.words.paragraph import no_paragraph, quoted
 from scribe.words.status import (
@@ -288,7 +288,7 @@ def _left(job: Import, intake: Intake, cut: CutShort, again: str) -> Iterator[st
             job = replace(job, text=Path("FILE"))
             then += " write the whole text to a file, here FILE, and"
         words = command_line(_command_from(job, intake, kept, cut.is_noted))
-        yield f"{then} go on by: {words}"
+        yield Offered(f"{then} go on by:", words)
 
 
 def _command_from(job: Import, intake: Intake, kept: int, is_noted: bool) -> list[str]:
@@ -427,10 +427,10 @@ def reminders(found: Unfinished | NotSeen | NotKept, book: Path) -> Iterator[str
     words = command_line(["scribe", "import", *its])
     if isinstance(found, Unfinished):
         yield came_to(found)
-        yield f"Go on by: {words} --continue"
+        yield Offered("Go on by:", f"{words} --continue")
     else:
         yield not_seen(found)
-    yield f"Leave the rest out by: {words} --leave"
+    yield Offered("Leave the rest out by:", f"{words} --leave")
 
 
 def _why_not(problem: NotImported) -> str:
