@@ -10,7 +10,7 @@ import fcntl
 import os
 import stat
 import struct
-from collections.abc import Callable, Iterator
+from collections.abc import Callable, Iterator, Sequence
 from contextlib import contextmanager, suppress
 from dataclasses import dataclass
 from pathlib import Path
@@ -41,6 +41,8 @@ _ACL, _ACL_BEGIN, _ACL_ENTRY = (
 )
 _ACL_FRONT = len(_ACL_BEGIN)
 _OF_OWNER, _OF_USER, _OF_GROUP = 0x01, 0x02, 0x04
+#: An entry: whom it is about, what that one may do, and a number.
+Listed = tuple[int, int, int]
 #: How many names and links a path is followed by at most.
 _MOST_STEPS = 5_000
 _FOLDER = os.O_PATH | os.O_DIRECTORY | os.O_NOFOLLOW | os.O_CLOEXEC
@@ -277,12 +279,26 @@ def give_list(file: int, like: int) -> None:
         own = max((may for tag, may, _ in listed if tag == _OF_OWNER), default=0)
         others = [each for each in listed if each[::2] != (_OF_USER, owner)]
         listed = sorted([*others, (_OF_USER, own, owner)])
+    set_list(file, listed)
+
+
+def set_list(file: int, listed: Sequence[Listed], mode: int = 0o777) -> bool:
+    """Gives a file a list of access, or none, in which the group itself may do what a mode says at most.
+
+    Whether it has one then.
+    """
+    limited = [
+        (tag, may & mode >> 3 if tag == _OF_GROUP else may, whom)
+        for tag, may, whom in listed
+    ]
     try:
-        entries = b"".join(_ACL_ENTRY.pack(*each) for each in listed)
+        entries = b"".join(_ACL_ENTRY.pack(*each) for each in limited)
         os.setxattr(file, _ACL, _ACL_BEGIN + entries)
     except OSError:
         with suppress(OSError):
             os.removexattr(file, _ACL)
+        return False
+    return bool(limited)
 
 
 def limit_group(file: int, mode: int) -> bool:
@@ -328,7 +344,7 @@ def mode_of(file: int | Path, found: os.stat_result) -> int:
     return mode
 
 
-def access_list(file: int | Path) -> list[tuple[int, int, int]]:
+def access_list(file: int | Path) -> list[Listed]:
     """The entries of the list of access that a file has: whom each is about, what for, and a number."""
     try:
         listed = os.getxattr(file, _ACL)

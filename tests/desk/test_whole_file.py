@@ -5,6 +5,7 @@ import os
 import shutil
 import sqlite3
 import stat
+import struct
 from contextlib import closing
 from pathlib import Path
 
@@ -24,6 +25,11 @@ from scribe.words.export import not_written
 from scribe.words.status import left_there, may_not_last
 from strangers import NEEDS_ROOT, STRANGER, as_stranger, lead_to
 from tool import scribe
+
+
+#: The number of an entry that is about nobody by a number, and two entries of a list of access.
+NOBODY = 0xFFFFFFFF
+OWNER, OTHERS = (1, 6, NOBODY), (32, 0, NOBODY)
 
 
 def mode(file: Path) -> int:
@@ -60,6 +66,69 @@ def test_a_file_of_ones_own_keeps_its_group_or_gives_another_one_nothing(
     monkeypatch.setattr(os, "fchown", refuse)
     write_whole(file, b"newest")
     assert (file.stat().st_gid, mode(file)) == (os.getegid(), 0o644)
+
+
+def packed(*listed: tuple[int, int, int]) -> bytes:
+    """A list of access, as the system keeps it: whom each entry is about, what for, and a number."""
+    entries = [struct.pack("<HHI", *each) for each in listed]
+    return b"".join([struct.pack("<I", 2), *entries])
+
+
+def give_list(path: Path, kind: str, listed: bytes) -> None:
+    try:
+        os.setxattr(path, f"system.posix_acl_{kind}", listed)
+    except OSError:
+        pytest.skip("the file system keeps no such lists")
+
+
+@pytest.mark.parametrize("group, gives", [(0, False), (0, True), (7, False)])
+def test_a_file_of_ones_own_keeps_its_list_of_access_and_gives_its_group_no_more(
+    tmp_path: Path, group: int, gives: bool
+) -> None:
+    file = tmp_path / "pages.brf"
+    file.write_bytes(b"older")
+    # another user may read it, and the group nothing, or no more than the most that is listed
+    named = (2, 6, STRANGER), (4, group, NOBODY), (16, 4, NOBODY)
+    listed = packed(OWNER, *named, OTHERS)
+    give_list(file, "access", listed)
+    if gives:
+        others = (2, 6, 7), (4, 7, NOBODY), (16, 6, NOBODY)
+        give_list(tmp_path, "default", packed(OWNER, *others, OTHERS))
+    write_whole(file, b"newer")
+    assert os.getxattr(file, "system.posix_acl_access") == listed
+    assert (file.read_bytes(), mode(file)) == (b"newer", 0o640)
+
+
+def test_a_file_of_ones_own_without_a_list_gets_none_from_its_folder(
+    tmp_path: Path,
+) -> None:
+    file = tmp_path / "pages.brf"
+    file.write_bytes(b"older")
+    file.chmod(0o640)
+    others = (2, 6, STRANGER), (4, 6, NOBODY), (16, 6, NOBODY)
+    give_list(tmp_path, "default", packed(OWNER, *others, OTHERS))
+    write_whole(file, b"newer")
+    assert (os.listxattr(file), mode(file)) == ([], 0o640)
+
+
+@NEEDS_ROOT
+def test_a_group_that_a_file_with_a_list_may_not_keep_is_limited_in_that(
+    tmp_path: Path, monkeypatch: pytest.MonkeyPatch
+) -> None:
+    file = tmp_path / "pages.brf"
+    file.write_bytes(b"older")
+    os.chown(file, -1, STRANGER)
+    more = (2, 6, STRANGER), (4, 4, NOBODY), (16, 6, NOBODY), OTHERS
+    give_list(file, "access", packed(OWNER, *more))
+
+    def refuse(file: int, owner: int, group: int) -> None:
+        raise PermissionError(errno.EPERM, "Operation not permitted")
+
+    monkeypatch.setattr(os, "fchown", refuse)
+    write_whole(file, b"newer")
+    limited = packed(OWNER, more[0], (4, 0, NOBODY), *more[2:])
+    assert os.getxattr(file, "system.posix_acl_access") == limited
+    assert (file.stat().st_gid, mode(file)) == (os.getegid(), 0o660)
 
 
 def test_no_file_that_is_written_can_be_run_or_takes_its_owners_rights(

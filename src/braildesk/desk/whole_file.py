@@ -14,16 +14,21 @@ from braildesk.desk import Problem
 from braildesk.opening import LOGS, MAGIC, has_tables_of_book
 from braildesk.protocol.value import Value
 from braildesk.workshop import (
+    Listed,
     Swapped,
+    access_list,
     gives_lists,
     is_same,
     limit_group,
     mode_of,
+    set_list,
     sync_names,
 )
 
 ANYONE = 0o666
 _OF_THE_SYSTEM = ("/dev/", "/proc/")
+# neither through a link nor waiting for a pipe that was put there
+_READ = os.O_RDONLY | os.O_NOFOLLOW | os.O_NONBLOCK | os.O_CLOEXEC
 #: The name of a file that is written and has its own name only then.
 _BESIDE = re.compile(r"\.scribe-[0-9a-f]{16}")
 # what is said of a name that has nothing, or a link or a pipe, since it was looked at
@@ -74,6 +79,17 @@ class Kept(Value):
 
     mode: int
     group: int
+    #: Its list of access (ACL), if it has one, and what those may do at most who are on that.
+    listed: tuple[Listed, ...]
+    most: int
+
+    @classmethod
+    def of(cls, file: int) -> "Kept":
+        """Those of an open file."""
+        found = os.fstat(file)
+        most = found.st_mode & ANYONE & stat.S_IRWXG
+        listed = tuple(access_list(file))
+        return cls(mode_of(file, found) & ANYONE, found.st_gid, listed, most)
 
 
 def write_whole(
@@ -183,14 +199,22 @@ def _kept_permissions(name: str, folder: int, replaces: Replaces | None) -> Kept
         raise AnotherIsThere(name, older.st_mode, leads_to)
     if not is_file or older.st_uid != os.geteuid():
         return None
-    return Kept(older.st_mode & ANYONE, older.st_gid)
+    return _kept(name, folder, older)
+
+
+def _kept(name: str, folder: int, like: os.stat_result) -> Kept | None:
+    """The permissions of a file that was looked at; none if another one is there by now, or nothing."""
+    with suppress(OSError):
+        with open(os.open(name, _READ, dir_fd=folder), "rb") as file:
+            if is_same(os.fstat(file.fileno()), like):
+                return Kept.of(file.fileno())
+    return None
 
 
 def _head(name: str, folder: int) -> bytes:
     """What stands at the front of a file; nothing if it is gone by now."""
-    flags = os.O_RDONLY | os.O_NOFOLLOW | os.O_NONBLOCK | os.O_CLOEXEC
     try:
-        with open(os.open(name, flags, dir_fd=folder), "rb") as file:
+        with open(os.open(name, _READ, dir_fd=folder), "rb") as file:
             # nothing where the system keeps a file that would have to be waited for
             return file.read(_HEAD_BYTES) or b""
     except OSError as error:
@@ -242,13 +266,16 @@ def _write(
 
 def _keep(file: int, kept: Kept) -> None:
     """Gives a file the group and the permissions of another; any other group may do no more than others."""
-    mode = kept.mode
+    mode, limited = kept.mode, 0o777
     try:
         os.fchown(file, -1, kept.group)
     except OSError:
         if os.fstat(file).st_gid != kept.group:
-            mode &= ~stat.S_IRWXG | (mode & stat.S_IRWXO) << 3
-    os.fchmod(file, mode)
+            limited = ~stat.S_IRWXG | (mode & stat.S_IRWXO) << 3
+    if set_list(file, kept.listed, limited):
+        os.fchmod(file, mode | kept.most)
+    else:
+        os.fchmod(file, mode & limited)
 
 
 def _take_group(file: int, folder: int, mode: int, group: int) -> None:
