@@ -211,6 +211,26 @@ def test_a_group_that_is_not_the_books_gets_no_more_than_others(
     assert mode(out / "pages.brf") == wanted
 
 
+@NEEDS_ROOT
+def test_in_a_folder_with_a_list_a_group_that_is_not_the_books_alone_gets_no_more(
+    tmp_path: Path,
+) -> None:
+    out = tmp_path / "out"
+    out.mkdir()
+    out.chmod(0o777)
+    lead_to(out)
+    # a group has the folder to itself, and reads and writes what is made there
+    of_folder = (4, 6, NOBODY), (8, 6, 7), (16, 6, NOBODY)
+    give_list(out, "default", packed(OWNER, *of_folder, OTHERS))
+
+    def write() -> None:
+        write_whole(out / "pages.brf", b"new", Access(0o660, 7, 0o060))
+
+    assert as_stranger(write) == ""
+    limited = packed(OWNER, (4, 0, NOBODY), *of_folder[1:], OTHERS)
+    assert os.getxattr(out / "pages.brf", "system.posix_acl_access") == limited
+
+
 @pytest.mark.parametrize("target", ["there.txt", "missing.txt", "."])
 def test_a_link_is_replaced_and_what_it_led_to_stays(
     target: str, tmp_path: Path

@@ -290,5 +290,9 @@ def _take_group(file: int, folder: int, mode: int, group: int) -> None:
     try:
         os.fchown(file, -1, group)
     except PermissionError:
-        of_others = (mode & stat.S_IRWXO) << 3
-        os.fchmod(file, made.st_mode & ANYONE & (~stat.S_IRWXG | of_others))
+        limited = ~stat.S_IRWXG | (mode & stat.S_IRWXO) << 3
+        with suppress(OSError):
+            # the bits of the group would limit all of those on a list
+            if limit_group(file, limited):
+                return
+        os.fchmod(file, made.st_mode & ANYONE & limited)
