@@ -120,7 +120,7 @@ def _new_book(
                 f"“{asked.path}”, or the path of a file beside it, which ends in -journal besides, is too"
                 " long. Nothing was made. Take a shorter one."
             ) from None
-        why = opening.OF_ROOM.get(error.errno or 0) or opening.why(asked)
+        why = opening.SAID_OF_DISK.get(error.errno or 0) or opening.why(asked)
         raise cannot_open(asked, why) from None
     _carry_out(asked.path, program, holding)
 
@@ -260,7 +260,7 @@ def _failing_whole(asked: NewBook) -> Iterator[None]:
     except FileExistsError:
         raise
     except (Failed, OSError) as failed:
-        if isinstance(failed, OSError) and failed.errno in opening.OF_ROOM:
+        if isinstance(failed, OSError) and failed.errno in opening.SAID_OF_DISK:
             raise
         raise Failed(
             f"The new book “{asked.path}” could not be written, and there is none:"

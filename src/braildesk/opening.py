@@ -73,9 +73,14 @@ def _is_file(path: str, mode: int) -> bool:
     return stat.S_ISREG(mode) and not any(each.startswith(_OF_SYSTEM) for each in names)
 
 
-#: What a failure of the system says of the room on a disk.
-OF_ROOM: Mapping[int, Why] = MappingProxyType(
-    {errno.ENOSPC: Why.NO_ROOM, errno.EDQUOT: Why.OVER_QUOTA}
+#: What a failure of the system says of a disk.
+SAID_OF_DISK: Mapping[int, Why] = MappingProxyType(
+    {
+        errno.ENOSPC: Why.NO_ROOM,
+        errno.EDQUOT: Why.OVER_QUOTA,
+        # also of one that is shown as written to, and takes nothing since it failed
+        errno.EROFS: Why.READ_ONLY,
+    }
 )
 #: What a disk may be the cause of.
 _OF_DISK = (Why.UNKNOWN, Why.DENIED, Why.LOG_DENIED)
@@ -110,7 +115,7 @@ def _why_no_file_more(folder: str) -> Why | None:
         finally:
             os.close(file)
     except OSError as error:
-        return OF_ROOM.get(error.errno or 0)
+        return SAID_OF_DISK.get(error.errno or 0)
     return None
 
 

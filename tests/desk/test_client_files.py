@@ -668,21 +668,29 @@ def test_the_program_is_led_nowhere_while_it_makes_a_book(
     assert (names(private), os.path.lexists(to)) == (set(), False)
 
 
-def test_a_new_book_that_finds_no_room_says_so_though_there_is_some_by_then(
-    tmp_path: Path, monkeypatch: pytest.MonkeyPatch
+@pytest.mark.parametrize(
+    "number, why", [(errno.ENOSPC, Why.NO_ROOM), (errno.EROFS, Why.READ_ONLY)]
+)
+def test_a_new_book_that_its_disk_takes_no_bytes_of_says_so_though_it_takes_some_by_then(
+    tmp_path: Path, monkeypatch: pytest.MonkeyPatch, number: int, why: Why
 ) -> None:
     def full(source: int, target: int) -> None:
-        raise OSError(errno.ENOSPC, "No space left on device")
+        raise OSError(number, os.strerror(number))
 
     monkeypatch.setattr("braildesk.making.copy_bytes", full)
     with pytest.raises(CannotOpen) as caught:
         braildesk.new_book(tmp_path / "new")
-    assert caught.value.why is Why.NO_ROOM
+    assert caught.value.why is why
     assert names(tmp_path) == set()
 
 
 @pytest.mark.parametrize(
-    "number, why", [(errno.ENOSPC, Why.NO_ROOM), (errno.EDQUOT, Why.OVER_QUOTA)]
+    "number, why",
+    [
+        (errno.ENOSPC, Why.NO_ROOM),
+        (errno.EDQUOT, Why.OVER_QUOTA),
+        (errno.EROFS, Why.READ_ONLY),
+    ],
 )
 def test_a_book_beside_which_its_disk_takes_no_file_more_says_so(
     book: Path, monkeypatch: pytest.MonkeyPatch, number: int, why: Why
