@@ -20,8 +20,10 @@ from braildesk.protocol.asked import (
     AskedOfFile,
     NewBook,
     TableFile,
+    is_held,
     journal_path,
     log_path,
+    real_path,
 )
 from braildesk.protocol.sentences import Why
 from braildesk.refusals import CannotOpen
@@ -248,13 +250,15 @@ def _why_denied(path: str) -> Why | None:
     """Which of the file, its folder and the log beside it may not be read and written, if any."""
     log = log_path(path)
     folder = os.path.dirname(log)
-    if not (
-        os.access(folder, os.R_OK | os.W_OK | os.X_OK)
-        and os.access(path, os.R_OK | os.W_OK)
-    ):
+    if not (os.access(folder, os.R_OK | os.W_OK | os.X_OK) and _may_be_changed(path)):
         return Why.DENIED
-    is_free = os.access(log, os.R_OK | os.W_OK) or not os.path.exists(log)
+    is_free = _may_be_changed(log) or not os.path.exists(log)
     return None if is_free else Why.LOG_DENIED
+
+
+def _may_be_changed(path: str) -> bool:
+    """Whether a file may be read and written; one to which may only be added may not."""
+    return os.access(path, os.R_OK | os.W_OK) and not is_held(real_path(path))
 
 
 def is_log(log: str) -> bool:

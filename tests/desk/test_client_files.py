@@ -2594,6 +2594,33 @@ def test_of_a_file_of_ones_own_nobody_else_is_asked(
     folder.chmod(0o755)
 
 
+@NEEDS_ROOT
+@pytest.mark.parametrize(
+    "name, flag, what",
+    [("book", "i", "it"), ("book", "a", "it"), (".", "i", "its folder")],
+)
+def test_of_a_file_that_the_system_lets_nobody_change_nobody_is_asked_for_leave(
+    book: Path, open_folder: Path, name: str, flag: str, what: str
+) -> None:
+    path = Path(shutil.copyfile(book, open_folder / "book"))
+    kept = ["--", str(open_folder / name)]
+    if subprocess.run(["chattr", f"+{flag}", *kept], capture_output=True).returncode:
+        pytest.skip("the file system keeps no such flags")
+    try:
+        with pytest.raises(CannotOpen) as caught:
+            Session(path)
+        said = caught.value.sentence
+        with snapshot(path) as copied:
+            assert braildesk.check(copied) == 1
+    finally:
+        subprocess.run(["chattr", f"-{flag}", *kept], check=True)
+    assert said == (
+        f"You aren't permitted to open “{path}”. Nothing was changed. The system lets nobody"
+        f" change {what}, whatever its permissions are: perhaps it was made immutable. An"
+        " administrator can take that away."
+    )
+
+
 def test_a_copy_into_a_folder_that_may_not_be_entered_says_so(
     book: Path, open_folder: Path
 ) -> None:

@@ -3,6 +3,7 @@
 Where the program finds the file of a book, its log and another program's journal is said here too.
 """
 
+import errno
 import os
 from dataclasses import dataclass, field
 from os import PathLike, fspath
@@ -156,6 +157,24 @@ def own_closed(path: str) -> str | None:
         if user and found.st_uid == user and found.st_mode & mode != mode:
             return each
     return None
+
+
+def held(path: str) -> str | None:
+    """The file at a path, or else its folder, if the system lets nobody change that, whatever its mode is."""
+    file = real_path(path)
+    return next((each for each in (file, os.path.dirname(file)) if is_held(each)), None)
+
+
+def is_held(path: str) -> bool:
+    """Whether the system lets nobody change a file or a folder, as where it was made immutable."""
+    kind = os.O_TMPFILE if os.path.isdir(path) else os.O_NOFOLLOW | os.O_NONBLOCK
+    try:
+        os.close(os.open(path, os.O_WRONLY | os.O_CLOEXEC | kind, 0o600))
+    except OSError as error:
+        return error.errno == errno.EPERM
+    except ValueError:
+        pass
+    return False
 
 
 def journal_path(path: str) -> str:

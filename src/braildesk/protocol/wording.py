@@ -13,6 +13,7 @@ from braildesk.protocol.asked import (
     Pages,
     Refusal,
     TableFile,
+    held,
     journal_path,
     log_path,
     own_closed,
@@ -198,6 +199,12 @@ class _Fields:
     def leave(self) -> str:
         """Who is asked for leave to use a file, or how one's own is used again."""
         named = self._asked.path if isinstance(self._asked, AskedOfFile) else ""
+        if not isinstance(self._asked, TableFile) and (kept := held(named)):
+            what = "it" if kept == real_path(named) else "its folder"
+            return (
+                f"The system lets nobody change {what}, whatever its permissions are: perhaps it was"
+                " made immutable. An administrator can take that away."
+            )
         closed = own_closed(named)
         if closed is None:
             return "Ask who owns it for leave to read and write it and to write in its folder."
