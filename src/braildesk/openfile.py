@@ -74,6 +74,8 @@ class OpenFile:
         #: Where the path leads.
         self.path = path
         self._descriptor: int | None = None
+        #: The disk that its folder is on.
+        self._disk: int | None = None
         self._was_database = False
         #: The most bytes that were found in it.
         self._most = 0
@@ -97,6 +99,8 @@ class OpenFile:
                 self._descriptor = os.open(self.path, _READ)
             except OSError:
                 return  # the program says why
+            with suppress(OSError):
+                self._disk = os.stat(os.path.dirname(os.path.abspath(path))).st_dev
             self._was_database = self._is_database(self._descriptor)
             self._most = os.fstat(self._descriptor).st_size
 
@@ -114,6 +118,20 @@ class OpenFile:
     def is_at(self, path: str) -> bool:
         """Whether another path leads to the file by now."""
         return self._descriptor is not None and _is_at(path, self._descriptor)
+
+    @property
+    def is_disk_gone(self) -> bool:
+        """Whether the file has a name on its disk still, and another disk is at its path by now."""
+        if self._descriptor is None or self._disk is None:
+            return False
+        with suppress(OSError):
+            folder = os.path.dirname(os.path.abspath(self.path))
+            while not os.path.lexists(folder):
+                folder = os.path.dirname(folder)
+            is_other = os.lstat(folder).st_dev != self._disk
+            has_name = os.fstat(self._descriptor).st_nlink > 0
+            return is_other and has_name and self.moved_to is None
+        return False
 
     @property
     def has_its_log(self) -> bool:

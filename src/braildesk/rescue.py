@@ -48,6 +48,8 @@ class Rescue:
         """That the file isn't at its path any more."""
         is_replaced = os.path.lexists(self._file.path)
         what = "another one was put there" if is_replaced else "it was removed or moved"
+        if self._file.is_disk_gone:
+            what = "its disk was taken away from there"
         # from a folder that was renamed it is found still by a path that begins there
         is_found = self._file.is_at(self._book.path)
         path = self._file.path if is_found else self._book.path
@@ -109,9 +111,14 @@ class Rescue:
                 "What was kept last isn't at that path, and it could not be saved in a new file:"
                 f" {failed.sentence} Copy what you typed last."
             )
+        kept = f"All of the book, with what was kept last, is in the new file {_shown(saved)}"
+        if self._file.is_disk_gone:
+            return saved, (
+                f"{kept}, which isn't on that disk. Move it to another folder before you go on: it is"
+                " hidden once that disk is there again."
+            )
         return saved, (
-            f"All of the book, with what was kept last, is in the new file {_shown(saved)}. Go on"
-            " with that one, or look first what is at the old path by now."
+            f"{kept}. Go on with that one, or look first what is at the old path by now."
         )
 
     def _is_whole(self, path: str, version: int) -> bool:

@@ -38,6 +38,7 @@ from braildesk.protocol.replies import Reader, Reply, Unreadable
 from braildesk import session as session_module
 from braildesk.session import session_beside
 from stand_in import KEPT, KILL_PROGRAM, READ, REPLY, WAIT
+from strangers import NEEDS_ROOT
 from terminal import once_free, standing_in
 from tool import WAIT_SECONDS
 
@@ -818,6 +819,44 @@ def test_a_book_that_is_gone_with_its_folder_says_that_it_is_not_saved(
         " open. What was kept last isn't at that path, and it could not be saved in a new file: No"
         " such file or directory. Copy what you typed last."
     )
+
+
+#: Types into a book on a disk of memory that is taken away meanwhile; the process alone has the disk.
+ON_A_DISK_TAKEN_AWAY = """\
+import shutil, subprocess, sys
+from braildesk import Displaced, Session
+
+book, folder = sys.argv[1:]
+if subprocess.run(["mount", "-t", "tmpfs", "none", folder]).returncode:
+    sys.exit(3)
+with Session(shutil.copy(book, folder)) as session:
+    subprocess.run(["umount", "-l", folder], check=True)
+    try:
+        session.add_paragraph("end", "en", "One.")
+    except Displaced as lost:
+        print(lost.sentence)
+"""
+
+
+@NEEDS_ROOT
+def test_a_book_whose_disk_is_taken_away_says_so_and_where_it_is_saved_meanwhile(
+    book: Path, tmp_path: Path
+) -> None:
+    folder = tmp_path / "disk"
+    folder.mkdir()
+    saved = folder / "book.braildesk-saved-1"
+    words = [sys.executable, "-c", ON_A_DISK_TAKEN_AWAY, str(book), str(folder)]
+    done = subprocess.run(["unshare", "-m", *words], capture_output=True, text=True)
+    if done.returncode and "Traceback" not in done.stderr:
+        pytest.skip("no disk can be mounted here")
+    assert done.stdout == (
+        f"The file of the book is no longer at “{folder}/book.braildesk”: its disk was taken"
+        " away from there while it was open. All of the book, with what was kept last, is in the new"
+        f" file “{saved}”, which isn't on that disk. Move it to another folder before you go on: it"
+        " is hidden once that disk is there again.\n"
+    )
+    with Session(saved) as session:
+        assert session.print_of(1) == "One."
 
 
 @pytest.mark.parametrize("moment", ["before a command", "before the end"])
