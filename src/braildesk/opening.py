@@ -140,6 +140,20 @@ def little_room(path: str) -> int | None:
     return found if found is not None and found < _LITTLE else None
 
 
+def is_little_left(path: str) -> bool:
+    """Whether a quota leaves this user little or nothing of the disk of a path; a file without a name is tried."""
+    folder = os.path.dirname(os.path.realpath(path))
+    try:
+        file = os.open(folder, os.O_TMPFILE | os.O_WRONLY | os.O_CLOEXEC, 0o600)
+        try:
+            os.posix_fallocate(file, 0, _LITTLE)
+        finally:
+            os.close(file)
+    except OSError as error:
+        return error.errno == errno.EDQUOT
+    return False
+
+
 def _why(asked: AskedOfFile) -> Why:
     try:
         return _why_not_regular(asked.path) or _why_regular(asked)

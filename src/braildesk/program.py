@@ -36,7 +36,7 @@ from braildesk.protocol.asked import (
     seen,
 )
 from braildesk.protocol.codes import Code
-from braildesk.protocol.sentences import ENDED_BY, Why, said_of_room
+from braildesk.protocol.sentences import ENDED_BY, OF_QUOTA, Why, said_of_room
 from braildesk.refusals import (
     CannotOpen,
     Damaged,
@@ -384,6 +384,8 @@ def of_signal(number: int) -> str:
 def _failure(status: int, errors: str, asked: AskedOfFile) -> str:
     if status == 3:
         room = said_of_room(opening.little_room(asked.path))
+        if not room and opening.is_little_left(asked.path):
+            room = OF_QUOTA
         return (
             "The file could not be written or read. What the book held is still in it. See to"
             f" the disk, and try again{room}."

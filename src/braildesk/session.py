@@ -26,6 +26,7 @@ from braildesk.protocol.codes import Code
 from braildesk.protocol.fields import Unwritable
 from braildesk.protocol.replies import Reply, Unreadable
 from braildesk.protocol.requests import Command, Request
+from braildesk.protocol.sentences import Why
 from braildesk.protocol.values import Table
 from braildesk.refusals import (
     DeskError,
@@ -380,11 +381,14 @@ class Session(Asking):
     def _not_kept(self, request: Request[Any]) -> Lost:
         """The exception of a session whose program could not keep a command, and has ended by that."""
         room = opening.little_room(self._book.path)
+        # before the program has given up the room of its log
+        is_by_quota = room is None and opening.is_little_left(self._book.path)
+        why = Why.OVER_QUOTA if is_by_quota else Why.UNKNOWN
         self._pipe.close()
         if room == 0:
             # the program has given up the room of its log by now
             room = opening.room(self._book.path)
-        refusal = refused_as(Refusal(Code.NOT_KEPT, request, room=room))
+        refusal = refused_as(Refusal(Code.NOT_KEPT, request, why=why, room=room))
         if self._rescue.has(self._seen):
             return self._lose(Lost, refusal.sentence)
         self._is_closed = True

@@ -23,6 +23,7 @@ from braildesk import (
     CannotOpen,
     Displaced,
     Done,
+    Failed,
     Lost,
     Refused,
     Session,
@@ -345,6 +346,40 @@ def test_what_was_not_kept_says_how_little_room_there_is(
         "The striking of paragraph 1 was not reported as kept, since the file of the book could"
         f" not be written or read.{said}"
     )
+
+
+@pytest.mark.parametrize(
+    "number, said",
+    [
+        (
+            errno.EDQUOT,
+            ": little or nothing is left of what you may use of it (a quota).",
+        ),
+        (errno.EOPNOTSUPP, "."),
+    ],
+)
+def test_what_was_not_kept_by_a_quota_says_so(
+    book: Path,
+    script: Callable[[str], Path],
+    monkeypatch: pytest.MonkeyPatch,
+    number: int,
+    said: str,
+) -> None:
+    def refuse(file: int, start: int, count: int) -> None:
+        raise OSError(number, os.strerror(number))
+
+    monkeypatch.setattr(os, "posix_fallocate", refuse)
+    program = script("read line; echo end 3; read line; echo no 91")
+    with Session(book, program) as session:
+        with pytest.raises(Lost) as kept:
+            session.strike(1)
+    assert kept.value.cause == (
+        "The striking of paragraph 1 was not reported as kept, since the file of the book could"
+        f" not be written or read. See to the disk{said}"
+    )
+    with pytest.raises(Failed) as begun, Session(book, script("exit 3")):
+        pass
+    assert begun.value.sentence.endswith(f" See to the disk, and try again{said}")
 
 
 def test_who_waits_for_an_answer_is_called_each_second(

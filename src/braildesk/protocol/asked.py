@@ -97,7 +97,7 @@ class Refusal(Value):
     cell: int | None = None
     table: int | None = None
     id: int | None = None
-    #: Why a file can't be opened.
+    #: Why a file can't be opened, or be written further.
     why: Why = Why.UNKNOWN
     #: The print or the braille of the paragraph, if it was looked up for the sentence.
     shown: str | None = None

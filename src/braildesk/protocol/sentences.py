@@ -231,6 +231,10 @@ UNOPENED = MappingProxyType(
 )
 
 
+#: What is said of a disk of which a quota leaves somebody little or nothing.
+OF_QUOTA = ": little or nothing is left of what you may use of it (a quota)"
+
+
 def said_of_room(room: int | None) -> str:
     """That there is little room on a disk, to stand after what is said of it.
 

@@ -24,10 +24,12 @@ from braildesk.protocol.fields import plain
 from braildesk.protocol.sentences import (
     CAUSES,
     LIMITS,
+    OF_QUOTA,
     PARTS,
     SENTENCES,
     STRUCK_ALREADY,
     UNOPENED,
+    Why,
     said_of_room,
 )
 from braildesk.text import limits
@@ -349,7 +351,9 @@ class _Fields:
 
     @property
     def room(self) -> str:
-        """How little room there is on the disk, if that is so."""
+        """How little room there is on the disk, or for this user, if that is so."""
+        if self._refusal.why is Why.OVER_QUOTA:
+            return OF_QUOTA
         return said_of_room(self._refusal.room)
 
     @property
