@@ -21,7 +21,7 @@ from scribe.screen import whole_book
 from scribe.screen.field import Field, Purpose
 from scribe.screen.state import HEAD_LINE, Size
 from sitting import Sat, Sit
-from stand_in import KEPT, KILL_PROGRAM, KILL_SCRIBE, READ, WAIT
+from stand_in import ANSWERED, KEPT, KILL_PROGRAM, KILL_SCRIBE, READ, WAIT
 from terminal import Open, once_free, standing_in
 
 TIDES = "The tide comes, and the Tide goes; no tideway is as it was."
@@ -629,27 +629,73 @@ def test_words_are_changed_on_a_small_terminal_as_they_are_heard(
     assert prints(tides)[1].count("flood") == 2
 
 
-def test_of_a_change_that_was_cut_short_no_earlier_one_is_taken_back(
-    tides: Path, sit: Sit, monkeypatch: pytest.MonkeyPatch
+@pytest.mark.parametrize(
+    "far, changes", [(READ, "1 change"), (KEPT, "2 changes"), (ANSWERED, "2 changes")]
+)
+def test_a_change_that_was_cut_short_is_taken_back_and_then_what_was_done_before(
+    tides: Path, sit: Sit, monkeypatch: pytest.MonkeyPatch, far: str, changes: str
 ) -> None:
-    # the session ends before the second of the places is changed
-    for name, value in standing_in(3, READ, KILL_PROGRAM).items():
-        monkeypatch.setenv(name, value)
-    sat = sit(tides)
+    # the session ends before the second of the places is changed, or before that is seen
+    with monkeypatch.context() as patched:
+        for name, value in standing_in(3, far, KILL_PROGRAM).items():
+            patched.setenv(name, value)
+        sat = sit(tides)
     sat.press("enter", "O", " ", "enter")
     version = sat.state.version
     asked(sat, "tide", "sea")
     sat.press("a")
     assert sat.state.message == (
         "The session was ended by signal 9. The book was opened again: it is at version"
-        f" {version + 1}. What was being done was stopped after 1 change. The places are listed as"
-        " they are now."
+        f" {version + int(changes[0])}. What was being done was stopped after {changes}. The places"
+        " are listed as they are now."
     )
-    assert "last kept: 1 change" in sat.lines[0]
+    assert f"last kept: {changes}" in sat.lines[0]
     sat.press("escape", "u")
-    taken = "Taken back: the newest correction of paragraph 1."
-    assert sat.state.message == taken
+    places = "1 place of 1 paragraph" if far == READ else "2 places of 2 paragraphs"
+    done = f"“tide” was replaced by “sea” in {places}"
+    if far != READ:
+        assert sat.state.question and done in sat.state.question.sentence
+        sat.press("y")
+        sat.state = sat.desk.away(sat.state, print)
+    assert sat.state.message == f"Taken back: {done}."
     assert sat.state.openings[1].words == "O The tide"
+    sat.press("u")
+    assert sat.state.message == "Taken back: paragraph 1 was corrected."
+    sat.desk.close()
+    assert prints(tides) == ["The tide", TIDES]
+
+
+@pytest.mark.parametrize("far", [READ, KEPT, ANSWERED])
+def test_a_place_that_was_changed_as_the_session_ended_is_taken_back(
+    tides: Path, sit: Sit, monkeypatch: pytest.MonkeyPatch, far: str
+) -> None:
+    with monkeypatch.context() as patched:
+        for name, value in standing_in(2, far, KILL_PROGRAM).items():
+            patched.setenv(name, value)
+        sat = sit(tides)
+    sat.press("enter", "O", " ", "enter")
+    asked(sat, "tide", "sea")
+    sat.press("y", "escape", "u")
+    assert sat.state.message == "Taken back: paragraph 1 was corrected."
+    sat.desk.close()
+    assert prints(tides) == ["The tide" if far == READ else "O The tide", TIDES]
+
+
+def test_volumes_of_which_some_were_set_as_the_session_ended_are_taken_back(
+    chapters: Path, sit: Sit, monkeypatch: pytest.MonkeyPatch
+) -> None:
+    # the session ends before the second of the paragraphs is set
+    with monkeypatch.context() as patched:
+        for name, value in standing_in(3, READ, KILL_PROGRAM).items():
+            patched.setenv(name, value)
+        sat = sit(chapters)
+    sat.press("enter", "O", " ", "enter")
+    sat.state = replace(sat.state, page_size=PageSize(28, 8))
+    sat.press("V", "v", *"4", "enter", "y", "escape", "u")
+    assert sat.state.message == "Taken back: volumes were set at 1 paragraph."
+    assert not any(each.begins_volume for each in sat.state.book)
+    sat.press("u")
+    assert sat.state.message == "Taken back: paragraph 1 was corrected."
 
 
 @pytest.mark.parametrize("left", ["first", "second"])

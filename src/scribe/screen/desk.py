@@ -1004,15 +1004,44 @@ class Desk:
         elif isinstance(action, FindPlaces) and action.answered is None:
             wanted = action.wanted
             action = whole_book.going_on(self._session, self.drafts, wanted)
+        changed: list[int] = []
         try:
-            found = whole_book.done(self._session, state, action, tell)
+            found = whole_book.done(self._session, state, action, tell, changed)
             return found.saying_too(said)
         except Lost as lost:
-            begun = state.version
-            if lost.version != begun:
-                # what was done before would be taken back in the place of this
-                state = replace(state, deeds=())
-            return self._after_loss(state, lost, begun).saying_too(said)
+            found = self._after_loss(state, lost, state.version)
+            found = self._with_part_found(found, state, lost, action, changed)
+            return found.saying_too(said)
+
+    def _with_part_found(
+        self,
+        state: State,
+        before: State,
+        lost: Lost,
+        action: OfWholeBook,
+        changed: Sequence[int],
+    ) -> State:
+        """The state in which u takes back what a lost session did for the whole book, all of it.
+
+        The last of the changes may not be among those that were seen, nor answered.
+        """
+        if state.is_lost:
+            return state
+        is_more = lost.version > before.version + len(changed)
+        its: list[object] = [lost.acknowledged] if is_more else []
+        try:
+            its.append(kept_alone(self._session, lost))
+        except Lost as again:
+            return self._after_loss(state, again)
+        last = [
+            each.paragraph for each in its if isinstance(each, requests.OfParagraph)
+        ]
+        done = [*changed, *last]
+        if self._session.last_version != before.version + len(done):
+            # what others did may be in the way
+            return replace(state, deeds=())
+        found = [whole_book.deed_of(action, done)] if done else []
+        return replace(state, deeds=(*before.deeds, *found))
 
     def _noting(
         self, state: State, action: ChangePlaces, tell: whole_book.Report

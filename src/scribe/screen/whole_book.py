@@ -5,7 +5,6 @@ Both are lists that are looked at first, and change the book only by a key in th
 
 from collections.abc import Callable, Iterable, Sequence
 from dataclasses import replace
-from typing import Any
 
 from braildesk import Mark, Refused, Session, requests
 from braildesk.desk.change import Change, change_place
@@ -28,7 +27,6 @@ from braildesk.desk.volume_plan import (
     to_be_set,
 )
 
-from braildesk.protocol.requests import Command
 from braildesk.text.excerpt import excerpt_lines
 from braildesk.text.spans import Span
 
@@ -169,19 +167,44 @@ def takes_long(state: State, action: OfWholeBook | TypeAll) -> bool:
     return sum(each.length for each in state.book) > _MANY
 
 
-def done(session: Session, state: State, action: OfWholeBook, tell: Report) -> State:
-    """The state after something was looked for in the whole book, or was changed in it."""
+def done(
+    session: Session,
+    state: State,
+    action: OfWholeBook,
+    tell: Report,
+    changed: list[int],
+) -> State:
+    """The state after something was looked for in the whole book, or was changed in it.
+
+    Each paragraph is listed as soon as it is changed, once for each change.
+    """
     match action:
         case FindPlaces():
             return _found(session, state, action)
         case ChangePlaces(nth=None):
-            return _all_changed(session, state, action, tell)
+            return _all_changed(session, state, action, tell, changed)
         case ChangePlaces(nth=nth):
-            return _one_changed(session, state, action, nth or 0)
+            return _one_changed(session, state, action, nth or 0, changed)
         case ListVolumes():
             return _volumes(session, state, action.most)
         case SetVolumes():
-            return _volumes_set(session, state, action, tell)
+            return _volumes_set(session, state, action, tell, changed)
+
+
+def deed_of(action: OfWholeBook, changed: Sequence[int]) -> Deed:
+    """What was done to the whole book, or a part of it, by changes of paragraphs in their order."""
+    if isinstance(action, SetVolumes):
+        its = reversed(action.changed[: len(changed)])
+        were = tuple(requests.Volume(each.id, each.begins_volume) for each, _ in its)
+        count = counted(len(changed), "paragraph")
+        return Deed(f"volumes were set at {count}", were)
+    back = tuple(map(requests.Undo, reversed(changed)))
+    if not isinstance(action, ChangePlaces) or action.nth is not None:
+        return Deed(f"paragraph {changed[-1]} was corrected", back)
+    count_of = Count(action.wanted)
+    for number in changed:
+        count_of.add_change(number)
+    return Deed(count_of.changed_in_words().removesuffix("."), back)
 
 
 def _found(session: Session, state: State, action: FindPlaces) -> State:
@@ -319,7 +342,7 @@ def _on_next(state: State, offer: ChangePlaces, nth: int, said: str) -> State:
 
 
 def _one_changed(
-    session: Session, state: State, offer: ChangePlaces, nth: int
+    session: Session, state: State, offer: ChangePlaces, nth: int, changed: list[int]
 ) -> State:
     """Changes one of the places, and goes on with the next one that is open."""
     its = offer.places[nth].proposal
@@ -330,9 +353,9 @@ def _one_changed(
         change = change_place(session, number, text, its.place, its.new, by)
     except Refused as refused:
         return state.saying(refused.sentence)
-    deed = Deed(f"paragraph {number} was corrected", (requests.Undo(number),))
+    changed.append(number)
     kept = f"kept: a correction of paragraph {number}"
-    state = _changed(session, state, deed, kept)
+    state = _changed(session, state, deed_of(offer, changed), kept)
     places = _moved(change, offer.places)
     came = replace(places[nth].proposal, place=change.came)
     places[nth] = Place(came, change)
@@ -349,31 +372,31 @@ def _moved(change: Change, places: Sequence[Place]) -> list[Place]:
 
 
 def _all_changed(
-    session: Session, state: State, offer: ChangePlaces, tell: Report
+    session: Session,
+    state: State,
+    offer: ChangePlaces,
+    tell: Report,
+    changed: list[int],
 ) -> State:
     """Changes all places that are listed, and says which were refused and why."""
-    count, places = Count(offer.wanted), offer.open_places
+    places = offer.open_places
     of_list = _done_before(offer)
     marks: list[Mark] = []
-    back: list[Command[Any]] = []
     said = ""
     try:
         for nth, each in enumerate(
             change_proposed(session, places, offer.wanted.by), 1
         ):
-            count.add(each)
             of_list.add(each)
             if isinstance(each, Change):
                 marks += each.touched
-                back.append(requests.Undo(each.paragraph))
+                changed.append(each.paragraph)
             tell(nth, len(places))
     except Interrupted:
         said = REST_STAYS
-    if back:
-        what = count.changed_in_words().removesuffix(".")
-        deed = Deed(what, tuple(reversed(back)))
-        kept = f"kept: {counted(len(back), 'correction')}"
-        state = _changed(session, state, deed, kept)
+    if changed:
+        kept = f"kept: {counted(len(changed), 'correction')}"
+        state = _changed(session, state, deed_of(offer, changed), kept)
     lines = [*of_list.totals(state.version), *of_list.refusals()]
     lines += filter(None, (said, touched(marks)))
     title = "Changed." if of_list.changed else "Nothing was changed."
@@ -432,24 +455,26 @@ def _volumes(session: Session, state: State, most: int | None) -> State:
 
 
 def _volumes_set(
-    session: Session, state: State, action: SetVolumes, tell: Report
+    session: Session,
+    state: State,
+    action: SetVolumes,
+    tell: Report,
+    changed: list[int],
 ) -> State:
     """Sets where volumes begin, as it was proposed, and shows them."""
-    kept, why = [], ""
+    why = ""
     try:
         for paragraph in set_volumes(session, action.changed):
-            kept.append(paragraph)
-            tell(len(kept), len(action.changed))
+            changed.append(paragraph.id)
+            tell(len(changed), len(action.changed))
     except Interrupted:
         pass
     except Refused as refused:
-        if not kept:
+        if not changed:
             raise
         why = refused.reason
-    back = tuple(requests.Volume(its.id, its.begins_volume) for its in reversed(kept))
-    count = counted(len(kept), "paragraph")
-    deed = Deed(f"volumes were set at {count}", back)
-    state = _changed(session, state, deed, f"kept: volumes set at {count}")
-    said = was_set(action.changed[: len(kept)], state.version)
+    kept = f"kept: volumes set at {counted(len(changed), 'paragraph')}"
+    state = _changed(session, state, deed_of(action, changed), kept)
+    said = was_set(action.changed[: len(changed)], state.version)
     state = _volumes(session, state, None)
     return state.saying(" ".join([why, *said]).lstrip())

@@ -56,12 +56,16 @@ class Count:
         """Counts what became of a place."""
         match each:
             case Change():
-                self.changed += 1
-                self._paragraphs.add(each.paragraph)
+                self.add_change(each.paragraph)
             case NotChanged():
                 self.refused.append(each)
             case Passed():
                 self.passed += 1
+
+    def add_change(self, paragraph: int) -> None:
+        """Counts a place of a paragraph that was changed."""
+        self.changed += 1
+        self._paragraphs.add(paragraph)
 
     def sentences(self, version: int) -> Iterator[str]:
         """Which places were refused and why, and how many were changed."""
