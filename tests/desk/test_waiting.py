@@ -347,7 +347,8 @@ def test_what_is_said_after_the_waiting_is_not_taken_away_by_keys_that_came_befo
     terminal.wait("It rose. It set.")
     terminal.settle()
     terminal.wait("The session was ended by signal 9.")
-    # the next key takes it away
+    # the next key takes it away, once that could be read
+    time.sleep(0.5)
     terminal.keys("left")
     terminal.wait_gone("was ended")
 
@@ -424,3 +425,41 @@ def test_what_keys_made_untrue_is_said_to_be_of_before(moon: Path, at: Open) -> 
     terminal.settle()
     lines = " ".join(" ".join(terminal.lines).split())
     assert "Before the last keys this was said: Paragraph 1 is struck." in lines
+
+
+@pytest.mark.parametrize("seconds, is_left", [(1_000.0, True), (0.0, False)])
+def test_what_was_not_done_is_said_until_it_could_be_read(
+    moon: Path,
+    at: Open,
+    monkeypatch: pytest.MonkeyPatch,
+    seconds: float,
+    is_left: bool,
+) -> None:
+    monkeypatch.setattr("scribe.screen.terminal.READING_SECONDS", seconds)
+    terminal = at(moon)
+    terminal.wait("? shows the keys.")
+    refused = "has no correction that could be taken back."
+    terminal.keys("down", "u")
+    terminal.wait(refused)
+    terminal.settle()
+    terminal.keys("down")
+    if is_left:
+        terminal.wait("Before the last keys this was said: Paragraph 2")
+        terminal.keys("up", "down")
+        terminal.settle()
+        assert refused in " ".join(" ".join(terminal.lines).split())
+    else:
+        terminal.wait_gone(refused)
+
+
+def test_what_was_done_is_said_until_the_next_key(
+    moon: Path, at: Open, monkeypatch: pytest.MonkeyPatch
+) -> None:
+    monkeypatch.setattr("scribe.screen.terminal.READING_SECONDS", 1_000.0)
+    terminal = at(moon)
+    terminal.wait("? shows the keys.")
+    terminal.keys("u")
+    terminal.wait("Taken back: ")
+    terminal.settle()
+    terminal.keys("down")
+    terminal.wait_gone("Taken back: ")

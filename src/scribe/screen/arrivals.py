@@ -18,8 +18,8 @@ _PASTE_SECONDS = 0.05
 _TYPED_SECONDS = 0.04
 # how long a paste is waited for once no more of it comes
 _LULL_SECONDS = 3.0
-# how long a question is on the screen, and no key comes, before one is an answer to it
-_READING_SECONDS = 0.3
+#: How long a question is on the screen, and no key comes, before one is an answer to it.
+READING_SECONDS = 0.3
 _FEW = 3
 #: What comes in place of a key that was pressed before what is offered could be read.
 UNREAD = "unread"
@@ -46,7 +46,7 @@ class Arrivals:
         if not self._held:
             return None
         if self.is_unread:
-            return self._latest + _READING_SECONDS
+            return self._latest + READING_SECONDS
         is_text = _is_pasted(self._held)
         return self._latest + (_PASTE_SECONDS if is_text else _TOGETHER_SECONDS)
 
@@ -134,7 +134,7 @@ class ToBeRead:
     def came(self, asked: object, pressed_at: float, before: float) -> None:
         """Keys came, which may have been pressed at a time, and others came before that."""
         pause = pressed_at - max(before, self._since)
-        is_read = asked == self._asked and pause >= _READING_SECONDS
+        is_read = asked == self._asked and pause >= READING_SECONDS
         self._read = asked if is_read else None
 
     def is_read_of(self, asked: object) -> bool:

@@ -576,8 +576,8 @@ class Desk:
             return self._after_loss(state, failed, is_sent=is_sent)
         if isinstance(failed, VersionConflict):
             said = "Another program changed the book, so it was opened again."
-            return self._opened_anew(state, said)
-        return state.saying(failed.sentence)
+            return replace(self._opened_anew(state, said), failure=said)
+        return state.failing(failed.sentence)
 
     def _opened_anew(self, state: State, said: str) -> State:
         """The book as it is now, in another session, with what was typed offered again."""
@@ -628,7 +628,7 @@ class Desk:
             said = f"{lost.cause} {found_words} {unsaved}".strip()
             kept_to = lost.version + (there.kept or 0)
             since = lost.version if begun is None else begun
-            found = _kept_since(state.saying(said), since, kept_to)
+            found = _kept_since(state.failing(said), since, kept_to)
             is_same = state.version == self._session.last_version
             is_about_lines = state.question is None or bool(state.question.lines)
             if is_same and state.typed is not None and is_about_lines:
@@ -842,7 +842,8 @@ class Desk:
         self._note_back(state, 0)
         book = self._session.paragraphs()
         state = replace(state, book=book, openings={}, reading=None, highlighted=None)
-        return self._drawn(so_far(state, done).saying(said))
+        state = so_far(state, done)
+        return self._drawn(state.saying(said) if done == count else state.failing(said))
 
     def _note_back(self, state: State, count: int) -> None:
         """Notes how many changes are to be taken back, or that nobody has to hear how many were."""
@@ -1095,7 +1096,7 @@ class Desk:
             if not is_new or not isinstance(interrupted.cause, Refused):
                 raise
             said = not_given(name, number, interrupted.cause)
-            return interrupted.state.saying(said)
+            return interrupted.state.failing(said)
 
     def _lines_typed(
         self, state: State, action: TypeAll, tell: whole_book.Report | None
@@ -1127,7 +1128,7 @@ class Desk:
                 raise
             left = state.question.lines if state.question else ()
             said = f"{len(lines) - len(left)} typed. {interrupted.cause.reason}"
-            return self._refused_among(state.saying(said), left)
+            return self._refused_among(state.failing(said), left)
         state = replace(state, typed=None, preview=None)
         return done_by_one_key(
             self._begun(state) if _is_gone_on_from(action) else state, before

@@ -232,6 +232,8 @@ class State:
     message: str = ""
     times: int = 1
     kept: str = ""
+    #: What was last said of something that wasn't done.
+    failure: str = ""
     #: The first row that is seen of what is said, while keys go through what has no room.
     said_row: int = 0
     #: The session with the book ended by itself.
@@ -380,6 +382,15 @@ class State:
     def saying(self, sentence: str) -> "State":
         """The state with something to say."""
         return replace(self, message=sentence, said_row=0)
+
+    def failing(self, sentence: str) -> "State":
+        """The state with something to say of what wasn't done, which has to be read."""
+        return replace(self.saying(sentence), failure=sentence)
+
+    @property
+    def says_failure(self) -> bool:
+        """Whether what has to be said is that something wasn't done."""
+        return bool(self.failure) and self.failure in self.message
 
     def saying_too(self, sentence: str) -> "State":
         """The state with something to say after what is said already, and that once."""

@@ -32,6 +32,7 @@ from braildesk.text.sequences import JOINING_JAMO
 
 from scribe.screen.actions import ExportTo, ImportFrom, TypeAll
 from scribe.screen.arrivals import (
+    READING_SECONDS,
     UNREAD,
     Arrivals,
     Lull,
@@ -182,6 +183,8 @@ class Screen:
         self._question = ToBeRead()
         # what was said last, of what, and since when it is on the screen, if it ever was
         self._said, self._said_of, self._said_at = "", _spot(state), 0.0
+        # how long that has to be there to be read
+        self._reading = 0.0
         #: Whether the terminal was closed, so that nobody reads what is said.
         self.is_hung_up = False
         #: The signal that ended scribe, if one did.
@@ -454,7 +457,7 @@ class Screen:
         if text.strip():
             self.state = self._desk.set_aside(self.state, text, True)
             said = f"{said} {self.state.message}"
-        self._become(self.state.saying(said))
+        self._become(self.state.failing(said))
 
     def _is_stopped_among_lines(self, key: Stroke) -> bool:
         """Whether lines still wait that a key had be typed, since scribe is to end."""
@@ -464,7 +467,7 @@ class Screen:
 
     def _leave_said(self) -> None:
         """Leaves on the screen what wasn't there yet as the keys came that would take it away."""
-        is_seen = self._said_at <= self._read_at
+        is_seen = self._said_at + self._reading <= self._read_at
         if is_seen or self.state.message or self.state.is_over:
             return
         said = self._said
@@ -553,6 +556,7 @@ class Screen:
             self._said, self._said_at = "", 0.0
         elif state.message and state.message != self._said:
             self._note_said(state.message, state)
+            self._reading = READING_SECONDS if state.says_failure else 0.0
         self.state = state
         if state.is_over:
             self._app.exit()

@@ -352,7 +352,7 @@ def _one_changed(
     try:
         change = change_place(session, number, text, its.place, its.new, by)
     except Refused as refused:
-        return state.saying(refused.sentence)
+        return state.failing(refused.sentence)
     changed.append(number)
     kept = f"kept: a correction of paragraph {number}"
     state = _changed(session, state, deed_of(offer, changed), kept)
