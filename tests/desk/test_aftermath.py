@@ -122,6 +122,12 @@ def test_a_conversation_says_what_of_its_last_line_is_in_the_book(
             " changed it meanwhile. Look whether what was asked last is in it.",
         ),
         (
+            (),
+            6,
+            "The book was opened again: it is at version 7, and was at 6 before: another program"
+            " changed it meanwhile.",
+        ),
+        (
             (requests.Strike(2),),
             5,
             "The book was opened again: it is at version 7, and was at 5 before: another program"
@@ -139,7 +145,7 @@ def test_a_conversation_says_what_of_its_last_line_is_in_the_book(
             " are in it.",
         ),
     ],
-    ids=["nothing", "of another", "more than was asked", "several"],
+    ids=["nothing", "of another", "of another alone", "more than was asked", "several"],
 )
 def test_what_is_found_again_is_said_by_the_version_and_the_book(
     moon: Path, unanswered: tuple[Request[object], ...], version: int, found: str

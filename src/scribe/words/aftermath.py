@@ -101,9 +101,10 @@ def found_again(found: FoundAgain, begun: int | None = None) -> str:
         done = counted(found.version - begun, "change")
         return f"{at}. What was being done was stopped after {done}."
     if kept is None:
+        look = " Look whether what was asked last is in it." if count else ""
         return (
-            f"{at}, and was at {found.before:,} before: another program changed it meanwhile. Look"
-            " whether what was asked last is in it."
+            f"{at}, and was at {found.before:,} before: another program changed it"
+            f" meanwhile.{look}"
         )
     if kept == 0:
         said = ", and what was asked last is not in it" if count else ""
