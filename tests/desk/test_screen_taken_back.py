@@ -1,5 +1,7 @@
 """What `u` takes back, and what it says of it; and what is said where the book has no way back."""
 
+import os
+import signal
 from pathlib import Path
 
 import pytest
@@ -521,3 +523,24 @@ def test_how_far_the_taking_back_came_is_said_at_the_next_opening(
         sat = sit(moon)
         assert (said in sat.state.message) is is_said
         sat.desk.close()
+
+
+def test_what_another_program_changed_after_a_session_was_lost_is_said_to_be_of_that(
+    moon: Path, sit: Sit
+) -> None:
+    sat = sit(moon)
+    sat.press("s")
+    assert "last kept: paragraph 1 struck" in sat.lines[0]
+    os.kill(sat.desk.pid, signal.SIGKILL)
+    with once_free(moon) as session:
+        session.set_style(2, "body")
+    sat.state = sat.desk.lost(sat.state)
+    assert sat.state.message == (
+        "The session was ended by signal 9. The book was opened again: it is at version 9, and was"
+        " at 8 before: another program changed it meanwhile. u no longer takes back what was done"
+        " before that."
+    )
+    assert "version 9, " in sat.lines[0]
+    assert "last kept: another program's change" in sat.lines[0]
+    sat.press("s")
+    assert "last kept: paragraph 1 restored" in sat.lines[0]

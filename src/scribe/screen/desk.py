@@ -123,6 +123,9 @@ from scribe.words.preview import Preview, Tables
 from scribe.words.status import Interrupted, Stop, in_sentences, of_system
 
 _OPEN_AGAIN = "The book is open again."
+# what was kept last if that isn't of this screen, and what becomes of what is
+_OF_OTHERS = "kept: another program's change"
+_LEFT = "u no longer takes back what was done before that."
 _OPEN_INSTEAD = "The file that is at the path now is open."
 _TYPE_ON = "What is typed is still here: type on."
 # the keys that leave the places of a list as they are; Enter goes to one of them
@@ -625,7 +628,8 @@ class Desk:
             self._open_further()
             there = aftermath.found_again(self._session, lost)
             found_words = found_again(there, begun)
-            said = f"{lost.cause} {found_words} {unsaved}".strip()
+            left = _LEFT if there.kept is None and state.deeds else ""
+            said = " ".join(filter(None, (lost.cause, found_words, left, unsaved)))
             kept_to = lost.version + (there.kept or 0)
             since = lost.version if begun is None else begun
             found = _kept_since(state.failing(said), since, kept_to)
@@ -635,6 +639,9 @@ class Desk:
                 return refreshed(self._session, _still_typed(found, is_sent))
             found = replace(without_typed(found), question=None)
             found = self._opened_again(replace(found, version=lost.version))
+            if there.kept is None and found.kept:
+                # the version beside it isn't that of what was kept here
+                found = replace(found, kept=_OF_OTHERS)
             found = found if is_same else self._looked_at_anew(found)
             return refreshed(self._session, self._offered(found, waits))
         except DeskError as failed:
