@@ -216,6 +216,28 @@ def test_a_text_that_was_offered_elsewhere_waits_where_its_disk_is_connected_aga
     assert Drafts(in_folder).waiting() == draft and Drafts(copy).waiting() is None
 
 
+@pytest.mark.parametrize("is_typed_further", [False, True])
+def test_a_text_that_a_copy_was_offered_goes_with_the_moved_book_until_it_is_typed_further(
+    in_folder: Path, sit: Sit, is_typed_further: bool
+) -> None:
+    draft = Draft(Aim.AFTER, 2, "en", "The Tides", "It rose.", None, 9)
+    Drafts(in_folder).save(draft)
+    copy, moved = (in_folder.with_name(f"{name}.braildesk") for name in ("a", "b"))
+    shutil.copyfile(in_folder, copy)
+    in_folder.rename(moved)
+    sat = sit(copy)
+    if is_typed_further:
+        sat.press("y")
+        sat.state = sat.desk.save_draft(sat.state)
+    sat.desk.close()
+    sit(moved).desk.close()
+    waits, other = Drafts(moved), Drafts(copy)
+    if is_typed_further:
+        waits, other = other, waits
+    found = waits.waiting()
+    assert found and found.text == "It rose." and other.waiting() is None
+
+
 def test_a_book_is_known_again_by_a_number_of_any_size(
     in_folder: Path, monkeypatch: pytest.MonkeyPatch
 ) -> None:
