@@ -3,8 +3,8 @@
 from pathlib import Path
 
 import pytest
-from PyQt6.QtCore import QMimeData, QPointF, Qt, QUrl
-from PyQt6.QtGui import QDropEvent, QImage
+from PyQt6.QtCore import QMimeData, QPoint, QPointF, Qt, QUrl
+from PyQt6.QtGui import QDragEnterEvent, QDragMoveEvent, QDropEvent, QImage
 from PyQt6.QtWidgets import QApplication
 
 from scribe.window import dialogs
@@ -188,6 +188,48 @@ def test_lines_that_are_dropped_stay_where_they_come_from_and_keep_it_waiting_fo
     assert not asked
     application.processEvents()
     assert asked == [["One.", "Two."]]
+
+
+@pytest.mark.parametrize("is_file", [False, True])
+@pytest.mark.parametrize("is_copied", [True, False])
+def test_what_is_dragged_is_copied_from_the_first_or_isnt_taken(
+    desk: Desk,
+    application: QApplication,
+    tmp_path: Path,
+    is_file: bool,
+    is_copied: bool,
+) -> None:
+    data, actions = QMimeData(), Qt.DropAction
+    files: list[Path] = []
+    desk.window.dropped.disconnect()
+    desk.window.dropped.connect(files.append)
+    if is_file:
+        data.setUrls([QUrl.fromLocalFile(str(tmp_path / "text.txt"))])
+    else:
+        data.setText("far ")
+    offered = actions.MoveAction
+    if is_copied:
+        offered |= actions.CopyAction
+    # with Shift a move is proposed, as programs do that drag a text without it
+    hands = Qt.MouseButton.LeftButton, Qt.KeyboardModifier.ShiftModifier
+    events: list[QDropEvent] = [
+        QDragEnterEvent(QPoint(2, 8), offered, data, *hands),
+        QDragMoveEvent(QPoint(2, 8), offered, data, *hands),
+        QDropEvent(QPointF(2, 8), offered, data, *hands),
+    ]
+    to = desk.window if is_file else desk.window.print.viewport()
+    for event in events:
+        assert event.proposedAction() == actions.MoveAction
+        application.sendEvent(to, event)
+        assert event.isAccepted() == is_copied
+        if is_copied:
+            assert event.dropAction() == actions.CopyAction
+    application.processEvents()
+    assert files == ([tmp_path / "text.txt"] if is_file and is_copied else [])
+    is_typed = is_copied and not is_file
+    assert desk.window.print.text == ("far The Moon" if is_typed else "The Moon")
+    if is_typed:
+        desk.act("give_up")
 
 
 TOO_MUCH = (

@@ -17,6 +17,8 @@ from PyQt6.QtCore import (
     pyqtSignal,
 )
 from PyQt6.QtGui import (
+    QDragEnterEvent,
+    QDragMoveEvent,
     QDropEvent,
     QFocusEvent,
     QFont,
@@ -349,18 +351,38 @@ class Print(Field):
         else:
             self.pasted.emit(lines)
 
+    def dragEnterEvent(self, event: QDragEnterEvent | None) -> None:
+        """Says while a text is dragged that it is copied: its program may ask no later."""
+        if event is not None:
+            super().dragEnterEvent(event)
+            self._copy(event)
+
+    def dragMoveEvent(self, event: QDragMoveEvent | None) -> None:
+        """Says so at each place."""
+        if event is not None:
+            super().dragMoveEvent(event)
+            self._copy(event)
+
     def dropEvent(self, event: QDropEvent | None) -> None:
         """A text that is dropped stays where it comes from, also if it isn't typed in the end."""
         if event is None:
             return
-        is_own = event.source() is self.viewport()
+        if not self._is_own(event) and not take_copy(event):
+            return
         self._is_dropped = True
         try:
             super().dropEvent(event)
         finally:
             self._is_dropped = False
-        if not is_own:
-            event.setDropAction(Qt.DropAction.CopyAction)
+        self._copy(event)
+
+    def _copy(self, event: QDropEvent) -> None:
+        """Has what is taken stay where it comes from, unless that is this text."""
+        if event.isAccepted() and not self._is_own(event):
+            take_copy(event)
+
+    def _is_own(self, event: QDropEvent) -> bool:
+        return event.source() is self.viewport()
 
     def canInsertFromMimeData(self, source: QMimeData | None) -> bool:
         """Text goes in; a file that is dropped is for the window."""
@@ -420,6 +442,16 @@ def _underlined(form: QTextCharFormat) -> QTextCharFormat:
 
 def _common(one: Span, other: Span) -> Span:
     return Span(max(one.start, other.start), min(one.stop, other.stop))
+
+
+def take_copy(event: QDropEvent) -> bool:
+    """Takes a copy of what is dragged, and nothing that can only be moved; whether it is taken."""
+    copy = Qt.DropAction.CopyAction
+    is_offered = bool(event.possibleActions() & copy)
+    if is_offered:
+        event.setDropAction(copy)
+    event.setAccepted(is_offered)
+    return is_offered
 
 
 def files_of(source: QMimeData) -> list[Path]:

@@ -7,6 +7,7 @@ from PyQt6.QtCore import QEvent, QSettings, QSize, Qt, QTimer, pyqtSignal
 from PyQt6.QtGui import (
     QCloseEvent,
     QDragEnterEvent,
+    QDragMoveEvent,
     QDropEvent,
     QFont,
     QKeyEvent,
@@ -28,7 +29,7 @@ from braildesk.text.characters import is_visible, visible
 from braildesk.text.excerpt import opening
 from braildesk.text.spans import Span
 
-from scribe.window.fields import AROUND, Cells, Field, Print
+from scribe.window.fields import AROUND, Cells, Field, Print, take_copy
 from scribe.window.menus import Menus
 from scribe.window.paragraphs import WORDS, Paragraphs, Table
 
@@ -266,17 +267,21 @@ class Window(QMainWindow):
         return self.menus.letter(event)
 
     def dragEnterEvent(self, event: QDragEnterEvent | None) -> None:
-        """Takes one file."""
+        """Takes one file, of which a copy is offered: it is read where it is."""
         data = event.mimeData() if event is not None else None
         if event is not None and data is not None and len(data.urls()) == 1:
             if data.urls()[0].isLocalFile():
-                event.acceptProposedAction()
+                take_copy(event)
+
+    def dragMoveEvent(self, event: QDragMoveEvent | None) -> None:
+        """Takes what came in, as a copy still."""
+        if event is not None:
+            take_copy(event)
 
     def dropEvent(self, event: QDropEvent | None) -> None:
         """Says which file was dropped, once the program from which it comes waits no more."""
         data = event.mimeData() if event is not None else None
-        if event is not None and data is not None and data.urls():
-            event.acceptProposedAction()
+        if event is not None and data is not None and data.urls() and take_copy(event):
             path = Path(data.urls()[0].toLocalFile())
             QTimer.singleShot(0, lambda: self.dropped.emit(path))
 
