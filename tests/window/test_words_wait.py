@@ -101,3 +101,34 @@ def test_that_words_can_be_kept_nowhere_is_said_until_they_are_kept(
     desk.act("change")
     desk.wait_for_draft()
     assert Drafts(desk.path).words() == ("sea", "")
+
+
+def test_words_that_can_be_kept_nowhere_are_there_again_until_the_window_is_closed(
+    desk: Desk, monkeypatch: pytest.MonkeyPatch, tmp_path: Path
+) -> None:
+    folder, message = tmp_path / "state" / "braildesk", desk.window.message
+    folder.write_text("")
+    firsts: list[str] = []
+    entered = ["sea", "-ocean", "sea", "-ocean", "sea", "ocean"]
+
+    def text(
+        over: object, title: str, asked: str, first: str, changed: object
+    ) -> object:
+        assert callable(changed)
+        firsts.append(first)
+        changed(typed := entered.pop(0))
+        return None if typed.startswith("-") else typed
+
+    monkeypatch.setattr("scribe.window.dialogs.text", text)
+    desk.act("change")
+    assert message.text == (
+        "Nothing was changed. Ctrl+H has the words again until the window is closed."
+    )
+    folder.unlink()
+    desk.act("change")
+    assert message.text == "Nothing was changed. Ctrl+H has the words again."
+    assert Drafts(desk.path).words() == ("sea", "-ocean")
+    desk.act("change")
+    assert firsts == ["", "", *["sea", "-ocean"] * 2]
+    desk.wait_for_draft()
+    assert Drafts(desk.path).words() is None

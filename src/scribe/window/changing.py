@@ -53,8 +53,9 @@ class Changing:
     def __init__(self, desk: Desk, finding: Finding) -> None:
         self.desk = desk
         self._finding = finding
-        # what is in the way of keeping words, if anything is
+        # what is in the way of keeping words, if anything is, and the words as long as it is so
         self._unkept = ""
+        self._here: tuple[str, str] | None = None
 
     def change(self) -> None:
         """Puts other words in place of those at the caret that were looked for."""
@@ -86,7 +87,9 @@ class Changing:
         came = dialogs.text(desk.window, "Change words", asked, new, keep)
         if came is None:
             desk.window.print.put_caret(place.start)
-            desk.say(f"{_NOTHING} Ctrl+H has the words again.")
+            is_here = desk.aside.result(lambda: self._here is not None, False)
+            until = " until the window is closed" if is_here else ""
+            desk.say(f"{_NOTHING} Ctrl+H has the words again{until}.")
             return
         whole = replaced(text, place.start, place.stop, came)
         done = desk.asked(partial(desk.book.corrected, reading, whole))
@@ -98,11 +101,17 @@ class Changing:
     def _words(self) -> tuple[str, str]:
         """The words that were typed to be changed and to come in their place, and weren't used."""
         desk = self.desk
-        return desk.aside.result(desk.drafts.words, False) or ("", "")
+        look = lambda: self._here or desk.drafts.words()
+        return desk.aside.result(look, False) or ("", "")
 
     def _keep(self, old: str, new: str) -> None:
         """Has such words wait until they are used, or nothing."""
         desk = self.desk
+
+        def keep() -> None:
+            self._here = old, new
+            desk.drafts.keep_words(old, new)
+            self._here = None
 
         def look(found: "Future[None]") -> None:
             try:
@@ -114,7 +123,7 @@ class Changing:
             before, self._unkept = self._unkept, ""
             desk.unsay(before)
 
-        desk.aside.latest("words", lambda: desk.drafts.keep_words(old, new), look)
+        desk.aside.latest("words", keep, look)
 
     def change_all(self) -> None:
         """Puts other words in place of some wherever they stand, at once or place by place."""
