@@ -341,9 +341,9 @@ def test_a_volume_that_cannot_be_so_short_is_said(desk: Desk, given: Answers) ->
 @pytest.mark.parametrize(
     "typed, number, place, said",
     [
-        ("3", 3, 0, ""),
-        ("page 1 line 2", 1, 4, ""),
-        ("v1 p1 l3", 2, 0, ""),
+        ("3", 3, 0, "Paragraph 3, character 1."),
+        ("page 1 line 2", 1, 4, "Paragraph 1, character 5."),
+        ("v1 p1 l3", 2, 0, "Paragraph 2, character 1."),
         ("sea", 3, 16, "Paragraph 3, character 17."),
         ("9", 1, 0, "There is no paragraph 9 in the book."),
         ("1" * 5000, 1, 0, f"There is no paragraph {'1' * 59}… in the book."),
@@ -365,6 +365,23 @@ def test_a_place_is_gone_to(
     desk.act("go_to")
     assert (desk.number, desk.window.print.place) == (number, place)
     assert desk.window.message.text.startswith(said)
+
+
+def test_of_a_place_that_is_gone_to_it_isnt_said_that_the_caret_stays(
+    desk: Desk, given: Answers
+) -> None:
+    given |= {"text": "page 9", "line": 0}
+    desk.do(requests.Style(3, Style.HEADING))
+    for to, said in (
+        ("go_to", "Paragraph 1, character 1."),
+        ("headings", "Paragraph 3, character 1."),
+    ):
+        given["text"] = "page 9 line 1"
+        desk.act("go_to")
+        assert desk.window.message.text.endswith("The caret stays where it was.")
+        given["text"] = "page 1 line 1"
+        desk.act(to)
+        assert desk.window.message.text == said
 
 
 def test_words_that_are_there_otherwise_are_said_to_be_until_they_are_not(

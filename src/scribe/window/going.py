@@ -12,6 +12,7 @@ from braildesk.text.characters import visible
 from braildesk.text.excerpt import opening
 
 from scribe.window import dialogs
+from scribe.window.arriving import say_there
 from scribe.window.desk import Desk
 from scribe.window.dialogs import IsStopped, Say
 from scribe.window.finding import Finding
@@ -56,6 +57,7 @@ class Going:
         if number is None:
             raise Stop(f"There is no paragraph {opening(word, _WORDS)} in the book.")
         self._to(number, 0, self.desk.window.table)
+        self._say_there()
 
     def _to(self, number: int, place: int, part: QWidget) -> None:
         """Goes to a character of a paragraph, in a part of the window."""
@@ -75,6 +77,12 @@ class Going:
         )
         found, place = dialogs.long(desk.window, desk.work, "Go to a page", look)
         self._to(found, place, desk.window.print)
+        self._say_there()
+
+    def _say_there(self) -> None:
+        """Says where the caret is now, in place of why it stayed where it was."""
+        desk = self.desk
+        say_there(desk, f"Paragraph {desk.number}, character {desk.place + 1:,}.")
 
     def headings(self) -> None:
         """Lists the headings, each with its page, and goes to one."""
@@ -101,6 +109,7 @@ class Going:
         line = dialogs.line_of(desk.window, title, lines, first)
         if line is not None:
             self._to(found[line].id, 0, desk.window.table)
+            self._say_there()
 
     def all_marks(self) -> None:
         """Lists the marks, the open ones first, each with its page, and goes to one."""

@@ -141,7 +141,7 @@ class Marking:
         marks = [mark for mark in desk.marks_here() if not mark.resolved]
         reading = desk.reading
         if not marks or reading is None:
-            raise Stop("There is no open mark here. F4 goes to the next one.")
+            raise Stop("There is no open mark here. F4 looks for the next one.")
         mark = marks[0].id
         desk.show_done(desk.asked(partial(desk.book.resolved, reading, mark)))
         desk.in_hand = None
