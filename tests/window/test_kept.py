@@ -22,6 +22,9 @@ from conftest import Open, prints
 from reader import PATIENCE_SECONDS, Reader
 from test_cancelled import STAND_IN
 
+# how what is said at the end of a window ends where something waits
+_WAITS = "isn't in the book is kept, and is offered when it is next opened."
+
 
 def _waits(window: Reader, book: Path, text: str) -> None:
     """Waits until a text is kept as what waits."""
@@ -136,17 +139,38 @@ def test_a_text_that_is_typed_at_an_offer_is_no_answer_to_it_and_is_set_aside(
     else:
         window.until("it is kept", lambda: _unread(moon) == text)
         window.program.send_signal(end)
-        assert window.end() == -end
+        _, said = window.program.communicate(timeout=PATIENCE_SECONDS)
+        assert window.program.returncode == -end
+        assert (_WAITS in _joined(said)) == (end == signal.SIGTERM)
     window = at(moon, is_waited_for=False)
     window.top = window.dialog("Unsent text")
     window.press("Return")
     window.no_dialog()
     window.opened()
-    if end is signal.SIGKILL:
-        window.says(f" set aside: “{text}”. Ctrl+B brings it back.")
+    if end is not None:
+        is_typed = "What was typed at the question is set aside"
+        window.says(f"{is_typed}: “{text}”. Ctrl+B brings it back.")
     window.reads("Print", "The Moon rose.")
     assert [each.text for each in Drafts(moon).given_up()] == [text]
     assert Drafts(moon).unread() is None
+
+
+def test_a_text_that_is_asked_about_is_said_to_wait_where_a_signal_comes(
+    moon: Path, at: Open
+) -> None:
+    soon = Draft(Aim.EDIT, 1, "en", "The Moon", "The Moon rose.", None, 5)
+    Drafts(moon).save(soon)
+    window = at(moon, is_waited_for=False)
+    window.dialog("Unsent text")
+    window.program.send_signal(signal.SIGTERM)
+    _, said = window.program.communicate(timeout=PATIENCE_SECONDS)
+    assert window.program.returncode == -signal.SIGTERM
+    assert _joined(said).endswith(_WAITS)
+    assert Drafts(moon).waiting() == soon
+
+
+def _joined(said: bytes) -> str:
+    return " ".join(said.decode().split())
 
 
 def _unread(book: Path) -> str:

@@ -87,11 +87,12 @@ class Unread(Value):
     """Text that came while nothing could be done with it.
 
     Some of it is lines after those of the text that waits, and the rest a text by itself. Both may
-    be nothing.
+    be nothing. It may have been typed where something was asked.
     """
 
     lines: str
     rest: Draft
+    is_at_offer: bool = False
 
     @property
     def text_of_all(self) -> str:
@@ -100,12 +101,14 @@ class Unread(Value):
 
     def values(self) -> dict[str, object]:
         """What is kept of it as JSON."""
-        return {**self.rest.values(), "lines": written(self.lines)}
+        its = {"lines": written(self.lines), "at-offer": self.is_at_offer}
+        return {**self.rest.values(), **its}
 
 
 def unread_in(kept: Record) -> Unread:
     """The text of which these values were kept; `NotSuch` if they are none."""
-    return Unread(kept.text("lines"), draft_in(kept))
+    is_at_offer = kept.is_equal("at-offer", True)
+    return Unread(kept.text("lines"), draft_in(kept), is_at_offer)
 
 
 def draft_in(kept: Record) -> Draft:

@@ -111,7 +111,6 @@ from scribe.words.changes import not_given
 from scribe.words.deeds import Deed, kept
 from scribe.words.drafts import (
     Unsent,
-    came_last,
     is_in_book,
     not_kept,
     taken_back_in_part,
@@ -428,7 +427,7 @@ class Desk:
         except NotKept as fault:
             notices.append(not_kept(fault))
         if self._unsent.came_last:
-            notices.append(f"{came_last(self._unsent.came_last)} U brings it back.")
+            notices.append(f"{self._unsent.came_last} U brings it back.")
         return tuple(notices)
 
     def _greeting(self) -> str:

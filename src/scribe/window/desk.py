@@ -127,6 +127,9 @@ class Desk:
     _unkept = ""
     # the same of a text that is held while the window waits
     _unheld = ""
+    # something is asked for which no key has asked, and the text that is typed there
+    _is_offering = False
+    _at_offer: Unread | None = None
 
     def __init__(
         self,
@@ -915,7 +918,7 @@ class Desk:
 
     def waits_at_once(self) -> str:
         """Keeps what is typed as what waits, once nothing can be shown, and says so if anything is."""
-        draft, held = self.draft(), self._text_held()
+        draft, held = self.draft(), self._text_held() or self._at_offer
         self.keep_draft(draft)
         # nothing more is done beside the window, which isn't drawn while that is waited for
         self.aside.stop()
@@ -928,7 +931,8 @@ class Desk:
             unkept.append(held.text_of_all if held is not None else "")
         if unkept:
             return f"{_UNKEPT} {visible(' '.join(unkept))}"
-        return _WAITS if draft is not None or held is not None else ""
+        waits = draft or held or (self._is_offering and self.unsent.waiting)
+        return _WAITS if waits else ""
 
     def _text_held(self) -> Unread | None:
         """The text that was typed while the window waits: lines after a new paragraph, or one by itself."""
@@ -968,26 +972,31 @@ class Desk:
 
     def offered(self, title: str, asked: str, answers: Sequence[str]) -> int:
         """The answer to what no key has asked for; a text that was typed there is given up."""
-        typed = ""
 
         def keep(text: str) -> None:
-            nonlocal typed
-            typed = text
-            self._keep_unread(Unread("", self._of_new(typed)) if typed else None)
+            its = self._of_new(text)
+            self._at_offer = Unread("", its, is_at_offer=True) if text else None
+            self._keep_unread(self._at_offer)
 
+        self._is_offering = True
         answer = offer(self.window, title, asked, answers, keep)
-        if not typed:
+        if self.is_ending:
             return answer
+        self._is_offering = False
+        typed, self._at_offer = self._at_offer, None
+        if typed is None:
+            return answer
+        draft = typed.rest
 
         def put_by() -> str:
-            how = self.unsent.put_by(self._of_new(typed))
+            how = self.unsent.put_by(draft)
             with suppress(NotKept):
                 self.unsent.keep_unread(None)
             return how or "Ctrl+B brings it back."
 
         how = self.aside.result(put_by, False)
         # also where what was answered is refused
-        self.say_after(f"{typed_at_offer(typed)} {how}")
+        self.say_after(f"{typed_at_offer(draft.text)} {how}")
         return answer
 
     def say_too(self, sentence: str) -> None:

@@ -16,7 +16,6 @@ from scribe.window.files import Files
 from scribe.window.typed import Typed
 from scribe.words.change_all import STAY, cut_short
 from scribe.words.drafts import (
-    came_last,
     is_in_book,
     not_kept,
     taken_back_in_part,
@@ -85,7 +84,7 @@ class Offers:
             except NotKept as fault:
                 said.append(not_kept(fault))
         if desk.unsent.came_last:
-            said.append(f"{came_last(desk.unsent.came_last)} Ctrl+B brings it back.")
+            said.append(f"{desk.unsent.came_last} Ctrl+B brings it back.")
         words = desk.aside.result(desk.drafts.words)
         if words is not None and all(words):
             said.append(f"{words_wait(words)} Ctrl+H has the words still.")

@@ -182,7 +182,7 @@ class Unsent:
         #: What was last typed where something is asked, by its name, and words that were to be changed.
         self.answers: dict[str, str] = {}
         self.words: tuple[str, str] = ("", "")
-        #: What came before the last end while nothing could be done with it, and is given up now.
+        #: That what came before the last end while nothing could be done with it is given up now.
         self.came_last = ""
         self._unread: Unread | None = None
         # the text that was left for later, and waits again once no other one does
@@ -225,7 +225,8 @@ class Unsent:
             self.waiting, text = whole, unread.rest.text
         if text:
             self._older = self._drafts.put_by(replace(unread.rest, text=text))
-        self.came_last = text
+            said = typed_at_offer if unread.is_at_offer else came_last
+            self.came_last = said(text)
         self.keep_unread(None)
 
     def keep_unread(self, unread: Unread | None) -> None:
