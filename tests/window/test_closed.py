@@ -139,6 +139,30 @@ def test_what_is_given_up_and_can_be_kept_nowhere_is_typed_further(
     assert desk.unsent.unkept == ()
 
 
+@pytest.mark.parametrize("is_closed", [False, True])
+def test_what_is_given_up_and_could_be_kept_nowhere_is_kept_once_that_can_be(
+    desk: Desk,
+    application: QApplication,
+    stays: list[str],
+    tmp_path: Path,
+    is_closed: bool,
+) -> None:
+    _without_folder(tmp_path)
+    desk.act("new_after")
+    desk.window.print.insertPlainText("It rose.")
+    desk.act("give_up")
+    message = desk.window.message
+    assert message.text.endswith("It is here only until scribe ends.")
+    (tmp_path / "state" / "braildesk").unlink()
+    if is_closed:
+        assert desk.window.close()
+    else:
+        given_up = "Given up. The book is as it was."
+        assert wait(application, 5, lambda: message.text == given_up)
+    assert (stays, desk.unsent.unkept) == ([], ())
+    assert [each.text for each in Drafts(desk.path).given_up()] == ["It rose."]
+
+
 def test_what_is_given_up_and_can_be_kept_nowhere_is_said_at_the_end(
     monkeypatch: pytest.MonkeyPatch, desk: Desk, tmp_path: Path
 ) -> None:

@@ -872,6 +872,13 @@ class Desk:
         """Tries again to keep what couldn't be kept, of which is said only that it is by now."""
         if self._unkept and not self._is_acting:
             self._keep(self.draft(), lambda sentence: None)
+        if self.unsent.unkept_said and not self._is_acting:
+            again = self.unsent.keep_again
+            self.aside.latest("given up", again, self._unsay_given_up)
+
+    def _unsay_given_up(self, found: "Future[str]") -> None:
+        """Has it said no more that what was given up can't be kept, once it is."""
+        self.unsay(visible(found.result()))
 
     def _keep(self, draft: Draft | None, say: Callable[[str], None]) -> None:
         """Does the same, and has it said what is in the way of that as long as that is so."""
@@ -1383,6 +1390,8 @@ class Desk:
             self._is_acting = False
         if not may_close and not self.is_left():
             return False
+        if self.unsent.unkept_said:
+            self.unsay(visible(self.aside.result(self.unsent.keep_again, False)))
         if self.unsent.unkept and not self._is_given_up(self.unsent.unkept):
             return False
         self.held.end()

@@ -189,6 +189,8 @@ class Unsent:
         self._later: Draft | None = None
         # what was given up and couldn't be kept, the newest first
         self._here: list[Draft] = []
+        #: What was said of that, until it isn't so any more.
+        self.unkept_said = ""
         # what was given up before and had no room any more, the newest first
         self._older: tuple[Draft, ...] = ()
 
@@ -264,6 +266,14 @@ class Unsent:
             self._older = (*older, *self._older)
             self._here.pop()
 
+    def keep_again(self) -> str:
+        """Tries again to keep what was given up, and gives what was said of it and isn't so any more."""
+        self._keep_here()
+        if self._here:
+            return ""
+        said, self.unkept_said = self.unkept_said, ""
+        return said
+
     @property
     def unkept(self) -> tuple[str, ...]:
         """The texts that were given up and are kept nowhere, the newest first."""
@@ -294,7 +304,9 @@ class Unsent:
             older = self._drafts.put_by(draft)
         except NotKept as fault:
             self._here.insert(0, draft)
-            return f"{not_kept(fault)} It is here only until scribe ends."
+            here_only = f"{not_kept(fault)} It is here only until scribe ends."
+            self.unkept_said = here_only
+            return here_only
         self._older = (*older, *self._older)
         if not older:
             return ""
