@@ -367,6 +367,16 @@ def test_a_place_is_gone_to(
     assert desk.window.message.text.startswith(said)
 
 
+def test_a_line_of_the_one_volume_is_gone_to_from_a_struck_paragraph(
+    desk: Desk, given: Answers
+) -> None:
+    desk.choose(2)
+    desk.act("strike")
+    given["text"] = "page 1 line 1"
+    desk.act("go_to")
+    assert desk.window.message.text == "Paragraph 1, character 1."
+
+
 def test_of_a_place_that_is_gone_to_it_isnt_said_that_the_caret_stays(
     desk: Desk, given: Answers
 ) -> None:

@@ -590,6 +590,8 @@ class OpenBook:
         number = wanted.volume
         if number is None:
             volume = next((v for v in volumes if here in v.paragraphs), None)
+            if volume is None and len(volumes) == 1:
+                (volume,) = volumes
             if volume is None:
                 raise Stop(f"Paragraph {here.id} is struck, so it is on no page.")
         elif 1 <= number <= len(volumes):
