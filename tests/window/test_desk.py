@@ -246,6 +246,29 @@ def test_a_manuscript_is_imported_with_its_headings_and_a_report(
     )
 
 
+@pytest.mark.parametrize(
+    "act, count, said",
+    [
+        ("keep", 1, "The print reads as before, so there is nothing to keep."),
+        ("take_back", 1, "There is nothing that Ctrl+Z could take back."),
+        ("take_back", 2, "Again: There is nothing that Ctrl+Z could take back."),
+    ],
+)
+def test_what_is_said_of_what_is_typed_is_said_until_something_else_is_typed(
+    desk: Desk, act: str, count: int, said: str
+) -> None:
+    for _ in range(count):
+        desk.act(act)
+    assert desk.window.message.text == said
+    desk.window.print.insertPlainText("So: ")
+    assert desk.window.message.text == ""
+    # what was said since then stays
+    desk.say("The caret is on no mark.")
+    desk.window.print.insertPlainText("so ")
+    assert desk.window.message.text == "The caret is on no mark."
+    desk.act("give_up")
+
+
 def test_with_nothing_to_take_back_a_correction_is_named_only_where_there_is_one(
     desk: Desk,
 ) -> None:

@@ -127,6 +127,8 @@ class Desk:
     _unkept = ""
     # the same of a text that is held while the window waits
     _unheld = ""
+    # what the message says of what is typed, which is so until that changes
+    _of_typed = ""
     # something is asked for which no key has asked, and the text that is typed there
     _is_offering = False
     _at_offer: Unread | None = None
@@ -375,6 +377,10 @@ class Desk:
         is_so = sentence in (self._unkept, self._unheld)
         if sentence and sentence in message and not is_so:
             self.say(message.replace(f" {sentence}", "").replace(sentence, "").strip())
+
+    def until_typed(self) -> None:
+        """What the message says is so until something else is typed."""
+        self._of_typed = self.window.message.text
 
     def _say_besides(self, sentence: str) -> None:
         """Says something after what was refused, if that is being read."""
@@ -1040,6 +1046,8 @@ class Desk:
         if self.is_closed and self.beside is not None:
             # what is typed on in the print has to wait by itself
             self.put_by(self.beside)
+        before, self._of_typed = self._of_typed, ""
+        self.unsay(before)
         text, table = self.typed_text(), self.table_of_typed()
         self._see_put_in(text)
         self.keep_draft(self.draft())

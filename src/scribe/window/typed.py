@@ -76,6 +76,7 @@ class Typed:
                     " Ctrl+Shift+Z takes back the newest correction of the paragraph."
                 )
             desk.refuse(said)
+            desk.until_typed()
 
     def _is_corrected(self) -> bool:
         """Whether the chosen paragraph has a correction that wasn't taken back."""
@@ -128,6 +129,7 @@ class Typed:
         desk, new = self.desk, self.desk.new
         if new is None and not desk.is_typed():
             desk.say("The print reads as before, so there is nothing to keep.")
+            desk.until_typed()
             return
         is_empty = not desk.typed_text().strip()
         if desk.settle() and new is not None and not is_empty:
@@ -151,6 +153,7 @@ class Typed:
         answers = ("&Yes", "&No")
         if dialogs.choice(desk.window, "A long paragraph", asked, answers):
             desk.say("It stays as it is typed. Enter asks again.")
+            desk.until_typed()
         else:
             self.typed_lines(lines)
             desk.window.print.put_caret(len(desk.window.print.text))
