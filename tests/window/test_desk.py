@@ -246,6 +246,22 @@ def test_a_manuscript_is_imported_with_its_headings_and_a_report(
     )
 
 
+def test_of_a_new_paragraph_it_is_said_that_enter_keeps_it_once_something_is_typed(
+    desk: Desk,
+) -> None:
+    desk.act("new_after")
+    here, empty = desk.window.here, "Enter and Escape leave it."
+    assert here.text == f"The end of 0 characters, not in the book yet. {empty}"
+    desk.window.print.insertPlainText(" ")
+    assert here.text.endswith(empty)
+    desk.window.print.insertPlainText("It rose.")
+    assert here.text.endswith("Enter keeps it, Escape gives it up.")
+    desk.window.print.setPlainText("")
+    assert here.text.endswith(empty)
+    desk.act("keep")
+    assert (desk.new, len(desk.contents.paragraphs)) == (None, 3)
+
+
 @pytest.mark.parametrize(
     "act, count, said",
     [

@@ -751,7 +751,9 @@ class Desk:
         where = f"Character {place + 1:,}" if place < len(text) else "The end"
         said = f"{where} of {count}"
         keeps = "Escape gives it up."
-        if not self.is_closed:
+        if self.new is not None and not text.strip():
+            keeps = "Enter and Escape leave it."
+        elif not self.is_closed:
             keeps = f"Enter keeps it, {keeps}"
         window.here.show_text(" ".join(filter(None, [fault, said, keeps])))
 
