@@ -1,6 +1,8 @@
 """Texts that come in and pages that go out, by dialogs, and what is copied."""
 
 import errno
+import os
+import signal
 from pathlib import Path
 
 import pytest
@@ -11,7 +13,7 @@ from braildesk.workshop import MayNotLast
 from scribe.window import dialogs
 from scribe.window.desk import Desk
 
-from conftest import Open, prints
+from conftest import Answers, Open, prints
 from reader import Reader, all_within
 
 
@@ -145,6 +147,22 @@ def test_the_book_is_closed_with_what_is_typed_in_it(moon: Path, at: Open) -> No
     window.press("Ctrl+q")
     assert window.end() == 0
     assert prints(moon)[1] == "The end"
+
+
+def test_nothing_is_said_to_be_exported_where_the_session_ended_before(
+    desk: Desk, given: Answers, monkeypatch: pytest.MonkeyPatch
+) -> None:
+    folder = desk.path.with_name("pages")
+
+    def typed(*_: object) -> str:
+        os.kill(desk.book.pid, signal.SIGKILL)
+        return str(folder)
+
+    monkeypatch.setattr(dialogs, "folder", typed)
+    desk.act("export")
+    assert given["said"][0] == "Export: nothing was done."
+    assert given["said"][1].startswith("The session was ended by signal 9.")
+    assert not folder.exists()
 
 
 @pytest.mark.parametrize(

@@ -224,13 +224,13 @@ class Files:
         they are so many. By then it is known what an earlier part of them lacked.
         """
         desk, before = self.desk, self.desk.contents
-        problems: list[Undecided] = []
-        done: list[str] = []
+        problems, done = list[Undecided](), [f"{title}: nothing was done."]
         desk.unwatch()
 
         def whole(say: Say, is_stopped: IsStopped) -> tuple[Contents, tuple[str, ...]]:
             heard = Heard(say)
             desk.book.close()
+            done.clear()
             console = _Beside(BytesIO(), heard, heard, _until(is_stopped), tell=say)
             count = _told(act, console, problems, cut)
             done.extend(heard.getvalue().splitlines())
