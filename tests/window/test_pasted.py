@@ -1,11 +1,12 @@
 """What is pasted where print is typed: text in HTML alone, files, and what has no text."""
 
+from collections.abc import Callable
 from pathlib import Path
 
 import pytest
-from PyQt6.QtCore import QMimeData, QPoint, QPointF, Qt, QUrl
+from PyQt6.QtCore import QMimeData, QPoint, QPointF, Qt, QTimer, QUrl
 from PyQt6.QtGui import QDragEnterEvent, QDragMoveEvent, QDropEvent, QImage
-from PyQt6.QtWidgets import QApplication
+from PyQt6.QtWidgets import QApplication, QDialog, QLineEdit, QWidget
 
 from scribe.window import dialogs
 from scribe.window.desk import Desk
@@ -230,6 +231,59 @@ def test_what_is_dragged_is_copied_from_the_first_or_isnt_taken(
     assert desk.window.print.text == ("far The Moon" if is_typed else "The Moon")
     if is_typed:
         desk.act("give_up")
+
+
+ASKED: dict[str, Callable[[QWidget], object]] = {
+    "a line": lambda over: dialogs.text(over, "Go to", "&Where?", "here"),
+    "a line that is typed further": lambda over: dialogs.text_further(
+        over, "Mark", "The note:", "here", lambda typed: None
+    ),
+    "several lines": lambda over: dialogs.fields(
+        over, "Change", ("&Words:", "&New ones:"), ("", "here"), ()
+    ),
+    "a folder": lambda over: dialogs.folder(over, "Export", "The folder:", "here"),
+}
+
+
+@pytest.mark.parametrize("is_copied", [True, False])
+@pytest.mark.parametrize("ask", ASKED.values(), ids=ASKED.keys())
+def test_what_is_dragged_into_a_line_of_a_dialog_is_copied_or_isnt_taken(
+    desk: Desk,
+    application: QApplication,
+    ask: Callable[[QWidget], object],
+    is_copied: bool,
+) -> None:
+    data, actions, found = QMimeData(), Qt.DropAction, list[str]()
+    data.setText("far")
+    offered = actions.MoveAction
+    if is_copied:
+        offered |= actions.CopyAction
+    hands = Qt.MouseButton.LeftButton, Qt.KeyboardModifier.ShiftModifier
+    taken: list[tuple[bool, bool]] = []
+
+    def drag() -> None:
+        dialog = application.activeModalWidget()
+        if not isinstance(dialog, QDialog):
+            QTimer.singleShot(10, drag)
+            return
+        line = dialog.findChildren(QLineEdit)[-1]
+        assert isinstance(line, QLineEdit)
+        events: list[QDropEvent] = [
+            QDragEnterEvent(QPoint(1, 8), offered, data, *hands),
+            QDragMoveEvent(QPoint(1, 8), offered, data, *hands),
+            QDropEvent(QPointF(1, 8), offered, data, *hands),
+        ]
+        for event in events:
+            application.sendEvent(line, event)
+            is_copy = event.dropAction() == actions.CopyAction
+            taken.append((event.isAccepted(), is_copy))
+        found.append(line.text())
+        dialog.reject()
+
+    QTimer.singleShot(0, drag)
+    assert ask(desk.window) is None
+    assert taken == [(is_copied, is_copied)] * 3
+    assert found == ["farhere" if is_copied else "here"]
 
 
 TOO_MUCH = (
