@@ -14,9 +14,9 @@ from braildesk.desk.drafts import Drafts
 from braildesk.desk.layout import PageSize
 from braildesk.text.spans import Span
 
-from PyQt6.QtCore import QEvent, Qt
+from PyQt6.QtCore import QEvent, Qt, QTimer
 from PyQt6.QtGui import QInputMethodEvent, QKeyEvent
-from PyQt6.QtWidgets import QApplication
+from PyQt6.QtWidgets import QApplication, QMessageBox
 
 from scribe.window import dialogs
 from scribe.window.actions import Actions
@@ -35,7 +35,9 @@ def stays(monkeypatch: pytest.MonkeyPatch) -> list[str]:
     """What is asked before the window goes, which stays then."""
     asked: list[str] = []
 
-    def choice(over: object, title: str, said: str, answers: Sequence[str]) -> int:
+    def choice(
+        over: object, title: str, said: str, answers: Sequence[str], by_enter: int = 0
+    ) -> int:
         asked.append(said)
         return 1
 
@@ -57,6 +59,38 @@ def test_a_text_that_can_be_kept_nowhere_is_said_to_be_lost_with_the_window(
     (asked,) = stays
     assert asked.endswith(f"Nothing was changed.\n\n{_LOST}")
     desk.window.print.setPlainText("The Moon")
+
+
+@pytest.mark.parametrize("is_given_up", [True, False])
+def test_enter_closes_no_window_with_which_a_text_is_lost(
+    desk: Desk, application: QApplication, tmp_path: Path, is_given_up: bool
+) -> None:
+    _without_folder(tmp_path)
+    if is_given_up:
+        desk.act("new_after")
+        desk.window.print.insertPlainText("It rose.")
+        desk.act("give_up")
+    else:
+        desk.window.print.insertPlainText("#")
+    asked: list[str] = []
+
+    def enter() -> None:
+        box = application.activeModalWidget()
+        if not isinstance(box, QMessageBox):
+            QTimer.singleShot(10, enter)
+            return
+        asked.append(box.text())
+        kind, none = QEvent.Type.KeyPress, Qt.KeyboardModifier.NoModifier
+        application.sendEvent(box, QKeyEvent(kind, Qt.Key.Key_Return, none, "\r"))
+
+    QTimer.singleShot(0, enter)
+    assert not desk.window.close()
+    (said,) = asked
+    assert "lost if the window is closed." in said
+    assert len(desk.unsent.unkept) == is_given_up
+    if not is_given_up:
+        assert desk.window.print.text == "#The Moon"
+        desk.window.print.setPlainText("The Moon")
 
 
 @pytest.mark.parametrize("more", ["", "Kept: paragraph 4. "])

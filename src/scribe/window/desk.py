@@ -78,6 +78,10 @@ _NOT_SHOWN = "has a character that a window can't show. scribe edit changes it."
 _ONLY_HERE = (
     "What is typed can't be kept elsewhere: it is lost if the window is closed."
 )
+# what is answered where it is asked whether the window is closed, and what Enter answers if a text is
+# lost by that
+_OF_CLOSING = "&Close", "&Stay"
+_STAYS = 1
 _WAITS = "What was typed and isn't in the book is kept, and is offered when it is next opened."
 _UNKEPT = "This was typed, and could not be kept:"
 # so many letters are no text where letters are keys
@@ -1423,15 +1427,16 @@ class Desk:
                 "Ctrl+B brings one back.",
             )
         said = f"{what} can't be kept elsewhere after being given up. {goes}. {how}"
-        return choice(self.window, "Not kept", said, ("&Close", "&Stay")) == 0
+        return choice(self.window, "Not kept", said, _OF_CLOSING, _STAYS) == 0
 
     def is_left(self) -> bool:
         """Asks whether the window goes while something is typed that wasn't kept."""
-        said, answers = self.window.message.text, ("&Close", "&Stay")
+        said = self.window.message.text
         if self.draft() is None:
             # all is in the book, which is elsewhere by now
-            return choice(self.window, "Closed", said, answers) == 0
-        waits = "What is typed waits, and is offered when the book is opened again."
+            return choice(self.window, "Closed", said, _OF_CLOSING) == 0
         if not self.is_waiting():
-            waits = _ONLY_HERE
-        return choice(self.window, "Not kept", f"{said}\n\n{waits}", answers) == 0
+            said = f"{said}\n\n{_ONLY_HERE}"
+            return choice(self.window, "Not kept", said, _OF_CLOSING, _STAYS) == 0
+        waits = "What is typed waits, and is offered when the book is opened again."
+        return choice(self.window, "Not kept", f"{said}\n\n{waits}", _OF_CLOSING) == 0

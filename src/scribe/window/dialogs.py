@@ -193,9 +193,16 @@ def _within(dialog: QDialog, kind: type[Part]) -> list[Part]:
 
 
 def choice(
-    over: QWidget | None, title: str, sentence: str, answers: Sequence[str]
+    over: QWidget | None,
+    title: str,
+    sentence: str,
+    answers: Sequence[str],
+    by_enter: int = 0,
 ) -> int:
-    """Asks, and gives the place of the answer among those; the last one is also Escape's."""
+    """Asks, and gives the place of the answer among those.
+
+    The last one is also Escape's, and the first one Enter's, where no other is.
+    """
     box = QMessageBox(over)
     box.setWindowTitle(title)
     box.setText(visible(sentence, lambda each: each == "\n" or is_shown(each)))
@@ -205,7 +212,7 @@ def choice(
         button = box.addButton(answer, QMessageBox.ButtonRole.ActionRole)
         assert button is not None
         buttons.append(button)
-    box.setDefaultButton(buttons[0])
+    box.setDefaultButton(buttons[by_enter])
     box.setEscapeButton(buttons[-1])
     _fit(box)
     with _back_to(over, box):
