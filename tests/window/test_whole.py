@@ -476,6 +476,20 @@ def test_a_mark_at_the_caret_is_come_to_after_another_one_was_in_hand(
     assert desk.window.message.text == "Mark 1, open, on “mon”: spelled so?"
 
 
+def test_where_there_is_no_open_mark_none_is_resolved(desk: Desk) -> None:
+    there_is_none = "There is no open mark here. F4 looks for the next one."
+    desk.choose(1)
+    desk.act("resolve")
+    assert desk.window.message.text == there_is_none
+    desk.act("next_mark")
+    desk.act("resolve")
+    assert desk.window.message.text == "Kept: mark 1 resolved."
+    version = desk.contents.version
+    desk.act("resolve")
+    assert desk.window.message.text == there_is_none
+    assert desk.contents.version == version
+
+
 def _give_accents(desk: Desk) -> None:
     """Gives paragraph 2 a table with a letter that an accent may be typed after."""
     table = desk.asked(desk.book.session.tables)[0].text + b"\nletter \\x00e9 15-1\n"
