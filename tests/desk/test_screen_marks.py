@@ -125,7 +125,7 @@ def test_a_mark_that_was_just_put_is_shown_before_others(
     sat = sit(moon, size=size)
     for keys in ((), ("tab",)):
         sat.press("n", *keys, "m", *"why?", "enter")
-        number = sat.state.kept.removeprefix("kept: mark ")
+        number = (sat.state.kept or "").removeprefix("kept: mark ")
         assert f" marks here. Mark {number}, " in said(sat)
     sat.press("r")
     assert sat.state.kept == f"kept: mark {number} resolved"

@@ -164,7 +164,7 @@ def after_errand(sat: Sat, key: str, path: Path) -> list[str]:
     assert sat.state.pages and not sat.state.is_lost
     shown = list(sat.state.pages.lines)
     sat.press("escape", "b")
-    assert sat.state.kept.startswith("kept: paragraph 1 ")
+    assert sat.state.kept and sat.state.kept.startswith("kept: paragraph 1 ")
     return shown
 
 

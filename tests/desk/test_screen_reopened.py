@@ -12,6 +12,7 @@ from braildesk.desk.draft import Aim, Draft
 from braildesk.desk.drafts import Drafts
 
 from scribe.screen.desk import Desk
+from scribe.screen.state import Size
 from sitting import Sat, Sit
 from stand_in import ANSWERED, HALF, KEPT, KILL_PROGRAM, READ, REPLY, SEND
 from terminal import Open, once_free, standing_in
@@ -401,6 +402,27 @@ def test_a_book_that_another_program_took_is_not_said_to_be_unchanged(
         assert "Nothing was changed" not in " ".join(sat.lines)
 
 
+@pytest.mark.parametrize("size", [(80, 24), (40, 12), (40, 1)])
+def test_what_was_kept_last_is_not_said_of_a_book_that_was_opened_again_after_another_had_it(
+    moon: Path, sit: Sit, size: tuple[int, int]
+) -> None:
+    sat = sit(moon, size=Size(*size))
+    sat.press("s")
+    os.kill(sat.desk.pid, signal.SIGKILL)
+    with once_free(moon) as session:
+        sat.state = sat.desk.lost(sat.state)
+        session.set_style(2, "body")
+    sat.press("enter")
+    assert sat.state.message == (
+        "The book is open again. It is at version 9 now; the screen said 8 last. u no longer takes"
+        " back what was done before it was opened again."
+    )
+    assert (sat.state.version, sat.state.deeds) == (9, ())
+    assert "kept" not in " ".join(sat.lines)
+    sat.press("s")
+    assert sat.state.kept == "kept: paragraph 1 restored"
+
+
 def test_who_types_goes_on_where_the_log_of_the_book_was_removed(
     moon: Path, sit: Sit
 ) -> None:
@@ -598,6 +620,21 @@ def test_a_command_for_another_version_is_not_carried_out_and_the_book_is_shown_
     )
     sat.press("n", "s")
     assert sat.state.kept == "kept: paragraph 1 struck"
+
+
+def test_a_change_of_another_program_between_two_keys_is_said_to_be_kept_last(
+    moon: Path, sit: Sit, monkeypatch: pytest.MonkeyPatch
+) -> None:
+    with monkeypatch.context() as patched:
+        for name, value in standing_in(2, READ, SEND, "correct 3 0 5 A").items():
+            patched.setenv(name, value)
+        sat = sit(moon)
+    sat.press("s", "down", "enter", *"Oh, ", "enter")
+    assert sat.state.message == (
+        "Another program changed the book, so it was opened again. It is at version 9 now; the"
+        " screen said 8 last. u no longer takes back what was done before it was opened again."
+    )
+    assert sat.lines[0].endswith("last kept: another program's change")
 
 
 def test_the_book_is_opened_again_at_the_terminal(moon: Path, at: Open) -> None:

@@ -125,6 +125,7 @@ _OPEN_AGAIN = "The book is open again."
 # what was kept last if that isn't of this screen, and what becomes of what is
 _OF_OTHERS = "kept: another program's change"
 _LEFT = "u no longer takes back what was done before that."
+_LEFT_AT_OPENING = "u no longer takes back what was done before it was opened again."
 _OPEN_INSTEAD = "The file that is at the path now is open."
 _TYPE_ON = "What is typed is still here: type on."
 # the keys that leave the places of a list as they are; Enter goes to one of them
@@ -578,11 +579,15 @@ class Desk:
             return self._after_loss(state, failed, is_sent=is_sent)
         if isinstance(failed, VersionConflict):
             said = "Another program changed the book, so it was opened again."
-            return replace(self._opened_anew(state, said), failure=said)
+            newest = _OF_OTHERS if state.kept else ""
+            return replace(self._opened_anew(state, said, newest), failure=said)
         return state.failing(failed.sentence)
 
-    def _opened_anew(self, state: State, said: str) -> State:
-        """The book as it is now, in another session, with what was typed offered again."""
+    def _opened_anew(self, state: State, said: str, newest: str | None = None) -> State:
+        """The book as it is now, in another session, with what was typed offered again.
+
+        What was kept last in a newer version is given if it is known.
+        """
         waits = draft_of(state) or self._unsent.waiting
         try:
             self._session.close()
@@ -596,7 +601,12 @@ class Desk:
                 if is_same
                 else f" now; the screen said {state.version:,} last."
             )
-            found = self._offered(found.saying(f"{said} {now}"), waits)
+            if found.version > state.version and not state.is_displaced:
+                # it may be of this screen, or of another program
+                found = replace(found, kept=newest)
+            left = _LEFT_AT_OPENING if state.deeds and not found.deeds else ""
+            found = found.saying(f"{said} {now} {left}".rstrip())
+            found = self._offered(found, waits)
             return with_changes(self.drafts, self._session, found)
         except Displaced as lost:
             return self._displaced(state, lost)

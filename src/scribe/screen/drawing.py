@@ -154,7 +154,8 @@ def _title(state: State) -> Line:
     elif paragraph and state.size.lines < _FEW_LINES:
         parts.append(title(paragraph, False))
     # the sentence below may speak of something later
-    parts.append(f"last {state.kept}" if state.kept else "nothing kept yet")
+    if state.kept is not None:
+        parts.append(f"last {state.kept}" if state.kept else "nothing kept yet")
     # what was last kept stands there at any width
     while len(parts) > 1 and columns(visible(", ".join(parts))) > state.size.columns:
         parts.pop(0)

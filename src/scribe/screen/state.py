@@ -228,10 +228,10 @@ class State:
     deeds: tuple[Deed, ...] = ()
     #: What is in the way of keeping what is typed.
     unkept: str = ""
-    #: What has to be said, how many keys in a row said it, and what was last kept.
+    #: What has to be said, how many keys in a row said it, and what was last kept, if that is known.
     message: str = ""
     times: int = 1
-    kept: str = ""
+    kept: str | None = ""
     #: What was last said of something that wasn't done.
     failure: str = ""
     #: The first row that is seen of what is said, while keys go through what has no room.
