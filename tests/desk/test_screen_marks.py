@@ -201,6 +201,7 @@ def test_each_mark_of_one_character_is_gone_to_shown_and_resolved(
     assert f"2 marks here, 1 open. {first}" in sat.lines
     sat.press("r")
     assert (sat.state.kept, sat.state.message) == ("kept: mark 1 resolved", "")
+    assert any(line.startswith("2 marks here, none open. ") for line in sat.lines)
     sat.press("r")
     assert sat.state.message == "There is no open mark here. n looks for the next one."
 

@@ -432,7 +432,8 @@ def _how_many(marks: list[Mark]) -> str:
     if len(marks) == 1:
         return ""
     count = sum(not mark.resolved for mark in marks)
-    return f"{len(marks)} marks here{f', {count} open' if count < len(marks) else ''}. "
+    are_open = f", {count or 'none'} open" if count < len(marks) else ""
+    return f"{len(marks)} marks here{are_open}. "
 
 
 def _cursor_in_words(
