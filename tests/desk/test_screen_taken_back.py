@@ -73,6 +73,20 @@ def test_u_takes_back_one_thing_after_the_other(moon: Path, sit: Sit) -> None:
     assert sat.state.message == "Taken back: the newest correction of paragraph 1."
 
 
+def test_u_says_whose_correction_from_before_it_takes_back(
+    moon: Path, sit: Sit
+) -> None:
+    with Session(moon) as session:
+        for start, who in ((0, "anna"), (1, "ben"), (2, None), (3, "carl")):
+            session.correct(2, start, 1, "x", by=who)
+        session.undo(2)
+    sat = sit(moon)
+    for by in ("", ", by ben", ", by anna"):
+        sat.press("down", "u") if not by else sat.press("u")
+        said = f"Taken back: the newest correction of paragraph 2{by}."
+        assert sat.state.message == said
+
+
 def test_the_cursor_is_where_a_correction_was_taken_back(moon: Path, sit: Sit) -> None:
     sat = sit(moon)
     # at the end of the print as it was corrected, and of its cells

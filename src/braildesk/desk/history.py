@@ -128,3 +128,10 @@ def _written(characters: Sequence[str | None]) -> str:
         UNKNOWN if is_unknown else "".join(each for each in run if each is not None)
         for is_unknown, run in runs
     )
+
+
+def newest_corrector(history: Sequence[Entry]) -> str | None:
+    """The name that was given with the newest correction that is in force, if any was."""
+    undone = {each.undone for each in history}
+    there = [e for e in history if e.kind is Kind.CORRECT and e.seq not in undone]
+    return there[-1].who if there else None

@@ -23,6 +23,7 @@ from braildesk.desk.correction import place_kept, smallest_correction
 from braildesk.desk.draft import Aim, Draft, Unread
 from braildesk.desk.drafts import Drafts, LeftAt, NotKept
 from braildesk.desk.highlighting import cells_of_marks
+from braildesk.desk.history import newest_corrector
 from braildesk.desk.tables import NoSuchTable, table_request
 from braildesk.protocol.requests import Command
 from braildesk.text.characters import visible
@@ -525,8 +526,10 @@ class Desk:
         tell: whole_book.Report | None,
     ) -> State:
         if isinstance(asked, requests.Undo):
-            taken = f"Taken back: the newest correction of paragraph {asked.paragraph}."
-            return saying_first(taken, self._sent(state, asked))
+            who = newest_corrector(self._session.history_of(asked.paragraph))
+            by = "" if who is None else f", by {visible(who)}"
+            its = f"the newest correction of paragraph {asked.paragraph}{by}"
+            return saying_first(f"Taken back: {its}.", self._sent(state, asked))
         if isinstance(asked, requests.Resolve):
             found = self._sent(state, asked)
             said = f"Mark {asked.mark} is resolved." if found.message else ""
