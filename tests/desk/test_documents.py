@@ -22,6 +22,7 @@ from braildesk.desk.documents import (
     pandoc,
     styles_of_odt,
 )
+from braildesk.desk.documents import sheets as style_sheets
 from braildesk.desk.documents.contents import missing
 from braildesk.desk.documents.document import read_document
 from braildesk.desk.documents.kinds import (
@@ -1105,6 +1106,55 @@ def test_a_sheet_to_which_many_pages_link_is_read_once(
     found = contents.contents_of(path.read_bytes(), ManuscriptKind.EPUB)
     assert [each.words for each in found.numbers] == ["One"] * 3
     assert parts.count("styles/a sheet.css") == 1
+
+
+def test_the_rules_of_a_sheet_are_ordered_once_for_all_pages_and_as_far_as_a_limit(
+    tmp_path: Path, monkeypatch: pytest.MonkeyPatch
+) -> None:
+    link = '<head><link rel="stylesheet" href="../styles/a%20sheet.css"/></head>'
+    page = PAGE.format("<p><span class='c1'>One</span> two</p>")
+    pages = {name: page.replace("<body>", f"{link}<body>").encode() for name in "abc"}
+    sheet = "".join(f".c{number} {{ font-style: italic }} " for number in range(50))
+    path = book_of(tmp_path / "moon.epub", "a b c", pages, sheet)
+    ordered: list[int] = []
+    add = style_sheets._Index.add
+
+    def counted(
+        index: style_sheets._Index, number: int, rule: style_sheets.Rule
+    ) -> None:
+        ordered.append(number)
+        add(index, number, rule)
+
+    monkeypatch.setattr(style_sheets._Index, "add", counted)
+    data = path.read_bytes()
+    found = contents.contents_of(data, ManuscriptKind.EPUB).losses
+    assert [(each.what, each.words) for each in found] == [
+        (LossKind.EMPHASIS, "One")
+    ] * 3
+    assert ordered == [*range(50)]
+    monkeypatch.setattr(style_sheets, "_OF_ORDER", style_sheets._MOST_STEPS)
+    ordered.clear()
+    found = contents.contents_of(data, ManuscriptKind.EPUB).losses
+    assert [each.what for each in found] == [LossKind.STYLES] * 3
+    assert ordered == []
+
+
+def test_rules_of_sheets_and_of_a_page_go_before_each_other_as_they_stand_there(
+    tmp_path: Path,
+) -> None:
+    path = tmp_path / "moon.epub"
+    link, own = "<link rel='stylesheet' href='a.css'/>", "<style>{}</style>"
+    plain, none = (
+        own.format(f"ol {{{{ list-style: {each} }}}}") for each in ("decimal", "none")
+    )
+    for head, words in (
+        (link + plain, []),
+        (plain + link, ["One"]),
+        (link + plain + link, ["One"]),
+        (plain + link + plain, []),
+        (link + plain + none, ["One"]),
+    ):
+        assert lost(of_sheets(path, {"a.css": NONE}, head), LossKind.LIST) == words
 
 
 def test_what_a_text_in_odt_computes_is_typed_as_it_is_shown(tmp_path: Path) -> None:

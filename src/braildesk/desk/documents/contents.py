@@ -50,7 +50,7 @@ from braildesk.desk.documents.reading import Loss, LossKind, Missing, plain, who
 from braildesk.desk.documents.sheets import (
     Effort,
     PageElement,
-    Rule,
+    Rules,
     Sheet,
     Sheets,
     imports_of,
@@ -643,7 +643,8 @@ def _of_epub(container: zipfile.ZipFile, found: Contents) -> None:
         is_there = sheet in names
         return part_of(container, sheet).decode(errors="replace") if is_there else ""
 
-    sheets, effort = Sheets(text_of), Effort()
+    effort = Effort()
+    sheets = Sheets(text_of, effort)
     for part in package.absent:
         found.lose(LossKind.ABSENT, part)
     for page in package.pages():
@@ -728,9 +729,7 @@ class _Html(Tags):
         "area base br col embed hr img input link meta param source track wbr".split()
     )
 
-    def __init__(
-        self, linked: Callable[[str], Sequence[Rule] | None], effort: Effort
-    ) -> None:
+    def __init__(self, linked: Callable[[str], Rules | None], effort: Effort) -> None:
         super().__init__()
         self._linked = linked
         #: The addresses of the sheets for print that weren't read, each once.
@@ -967,7 +966,8 @@ class _Html(Tags):
         rules = self._linked(address)
         if rules is None and address and _FOR_PRINT.search(media):
             self.unread[address] = None
-        self._sheet.add(rules or ())
+        if rules is not None:
+            self._sheet.link(rules)
 
     def _count(self, tag: str, attributes: dict[str, str | None]) -> None:
         """Notes a list, or an item of the list that is open."""
@@ -1057,9 +1057,7 @@ def _halves(declaration: str) -> tuple[str, str, str]:
     return declaration.partition(":")
 
 
-def _page_of(
-    text: str, linked: Callable[[str], Sequence[Rule] | None], effort: Effort
-) -> _Html:
+def _page_of(text: str, linked: Callable[[str], Rules | None], effort: Effort) -> _Html:
     page = _Html(linked, effort)
     page.feed(text)
     page.close()

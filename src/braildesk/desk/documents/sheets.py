@@ -29,8 +29,8 @@ _PRINTED = re.compile(r"\b(?:all|print)\b", re.IGNORECASE)
 _MOST_NESTED, _MOST_SHEETS, _MOST_RULES = 8, 100, 10_000
 #: How much is tried of rules for the elements of a file, which takes some seconds.
 _MOST_STEPS = 8_000_000
-#: How many steps it takes to look at a rule, beside those of its selectors.
-_OF_RULE = 4
+#: How many steps it takes to look at a rule, beside those of its selectors; and to order one by what it names.
+_OF_RULE, _OF_ORDER = 4, 16
 _SELECTOR = re.compile(r"([\w-]+|\*)?((?:[.#][\w-]+)*)")
 #: How deep rules for some media are looked for within others.
 _DEEPEST = 8
@@ -157,10 +157,30 @@ class _Index:
         numbered = rule.weight, number, frozenset(outer), rule
         groups.setdefault(outer[-1] if outer else "", []).append(numbered)
 
-    def groups_of(self, element: PageElement) -> list[dict[str, list[_Numbered]]]:
-        """Those that may be for an element, by what an element around it must have."""
-        keys = _keys(element) if self._rules else ()
+    def groups_of(self, keys: Sequence[str]) -> list[dict[str, list[_Numbered]]]:
+        """Those that may be for an element of which some keys are named, by what an element around it must have."""
         return [self._rules[key] for key in keys if key in self._rules]
+
+
+class Rules:
+    """Some rules in their order, which are found by what they say and what they name."""
+
+    def __init__(self, rules: Sequence[Rule] = ()) -> None:
+        self.rules: list[Rule] = []
+        #: Those that say whether elements are counted; something of the marks of lists; or how elements are shown.
+        self.counting, self.listing, self.showing = _Index(), _Index(), _Index()
+        self.add(rules)
+
+    def add(self, rules: Sequence[Rule]) -> None:
+        """Adds rules after the others."""
+        for number, rule in enumerate(rules, len(self.rules)):
+            if _COUNTED in rule.values:
+                self.counting.add(number, rule)
+            if {_TYPE, _DISPLAY} & rule.values.keys():
+                self.listing.add(number, rule)
+            if not _SHOWN.isdisjoint(rule.values):
+                self.showing.add(number, rule)
+        self.rules += rules
 
 
 class Sheet:
@@ -169,27 +189,37 @@ class Sheet:
     def __init__(self, effort: Effort) -> None:
         self._effort = effort
         self._count = 0
-        #: Those that say whether elements are counted; something of the marks of lists; or how elements are shown.
-        self._counting, self._listing, self._showing = _Index(), _Index(), _Index()
+        #: The rules of each sheet, of which those of the page itself that follow each other are one; and these if
+        #: they are the last.
+        self._all: list[Rules] = []
+        self._own: Rules | None = None
         #: Some elements around others, and what they have that rules name.
         self._outer: tuple[PageElement, ...] = ()
         self._around = frozenset([""])
         #: Whether there is more to try of the rules than is tried; and whether that is so, or there are more rules.
         self._is_spent = self.is_cut = False
 
+    def link(self, linked: Rules) -> None:
+        """Adds the rules of a sheet, which others may link to, after the others."""
+        if len(linked.rules) > _MOST_RULES - self._count:
+            self.add(linked.rules)
+        elif linked.rules and not self._is_spent:
+            self._all.append(linked)
+            self._own = None
+            self._count += len(linked.rules)
+
     def add(self, rules: Sequence[Rule]) -> None:
-        """Adds the rules of a sheet after the others."""
+        """Adds the rules of a sheet of the page itself after the others."""
         left = _MOST_RULES - self._count
         self.is_cut |= len(rules) > left
         rules = rules[:left]
-        self._take(len(rules))
-        for number, rule in enumerate(rules, self._count):
-            if _COUNTED in rule.values:
-                self._counting.add(number, rule)
-            if {_TYPE, _DISPLAY} & rule.values.keys():
-                self._listing.add(number, rule)
-            if not _SHOWN.isdisjoint(rule.values):
-                self._showing.add(number, rule)
+        self._take(_OF_ORDER * len(rules))
+        if not rules or self._is_spent:
+            return
+        if self._own is None:
+            self._own = Rules()
+            self._all.append(self._own)
+        self._own.add(rules)
         self._count += len(rules)
 
     def mark_of(self, path: Sequence[PageElement], own: str) -> str | None:
@@ -198,7 +228,7 @@ class Sheet:
         ``path`` is the element and those that it is within, ``own`` the style that it has itself.
         """
         said: tuple[dict[str, str], ...] = ({}, {})
-        for rule in self._heaviest(self._listing, path):
+        for rule in self._heaviest([each.listing for each in self._all], path):
             values = said[rule.is_important]
             if not rule.values.keys() <= values.keys() and self._fits(rule, path):
                 values.update({**rule.values, **values})
@@ -211,29 +241,40 @@ class Sheet:
 
     def is_counted(self, path: Sequence[PageElement]) -> bool:
         """Whether a number stands in front of an element that no page has, within those before it."""
-        found = self._heaviest(self._counting, path)
+        found = self._heaviest([each.counting for each in self._all], path)
         fit = next((rule for rule in found if self._fits(rule, path)), None)
         return fit is not None and bool(fit.values[_COUNTED])
 
     def shown_of(self, path: Sequence[PageElement], own: str) -> dict[str, str]:
         """How an element is shown, as far as that is said; ``path`` and ``own`` are as above."""
         plain, important = own_values(own), _values(own, True)
-        for rule in self._heaviest(self._showing, path):
+        for rule in self._heaviest([each.showing for each in self._all], path):
             values = important if rule.is_important else plain
             if not rule.values.keys() <= values.keys() and self._fits(rule, path):
                 values.update({**rule.values, **values})
         return plain | important
 
-    def _heaviest(self, index: _Index, path: Sequence[PageElement]) -> Iterator[Rule]:
+    def _heaviest(
+        self, indices: Sequence[_Index], path: Sequence[PageElement]
+    ) -> Iterator[Rule]:
         """Those rules, the heaviest first, that may be for an element by what it and those around it have."""
-        found: list[_Numbered] = []
-        for groups in () if self._is_spent else index.groups_of(path[-1]):
-            around = self._keys_around(path)
-            fewer: Collection[str] = min(groups, around, key=len)
-            its = [groups[key] for key in fewer if key in groups and key in around]
-            self._take(len(fewer) + _OF_RULE * sum(map(len, its)))
-            found += (each for rules in its for each in rules if each[2] <= around)
-        found.sort(key=lambda each: each[:2], reverse=True)
+        found: list[tuple[tuple[bool, int, int, int], int, int, Rule]] = []
+        keys = _keys(path[-1]) if indices else []
+        if keys:
+            self._take(len(keys) * len(indices))
+        for order, index in enumerate(indices):
+            for groups in () if self._is_spent else index.groups_of(keys):
+                around = self._keys_around(path)
+                fewer: Collection[str] = min(groups, around, key=len)
+                its = [groups[key] for key in fewer if key in groups and key in around]
+                self._take(len(fewer) + _OF_RULE * sum(map(len, its)))
+                found += (
+                    (weight, order, number, rule)
+                    for rules in its
+                    for weight, number, named, rule in rules
+                    if named <= around
+                )
+        found.sort(key=lambda each: each[:3], reverse=True)
         return (rule for *_, rule in found)
 
     def _keys_around(self, path: Sequence[PageElement]) -> frozenset[str]:
@@ -259,19 +300,21 @@ class Sheet:
 class Sheets:
     """The style sheets of a container by their parts, each of which is read once."""
 
-    def __init__(self, text_of: Callable[[str], str]) -> None:
+    def __init__(self, text_of: Callable[[str], str], effort: Effort) -> None:
         #: What the text of a part is, nothing of one that isn't there.
         self._text_of = text_of
+        self._effort = effort
         self._own: dict[str, tuple[tuple[str, ...], tuple[Rule, ...]]] = {}
-        self._whole: dict[str, tuple[Rule, ...] | None] = {}
+        self._whole: dict[str, Rules | None] = {}
 
-    def linked(self, part: str, address: str) -> tuple[Rule, ...] | None:
+    def linked(self, part: str, address: str) -> Rules | None:
         """The rules of the sheet to which a part links; None if not all that it imports is read."""
         sheet = _beside(part, address)
         if sheet not in self._whole:
             rules: list[Rule] = []
             is_whole = self._add(sheet, 1, set(), rules)
-            self._whole[sheet] = tuple(rules) if is_whole else None
+            is_read = is_whole and self._effort.take(_OF_ORDER * len(rules))
+            self._whole[sheet] = Rules(rules) if is_read else None
         return self._whole[sheet]
 
     def _add(self, sheet: str, depth: int, seen: set[str], rules: list[Rule]) -> bool:
