@@ -1089,6 +1089,18 @@ def test_lists_of_a_book_whose_sheet_hides_their_numbers_are_noted(
     assert lost(found, LossKind.LIST) == ["One"]
 
 
+def test_a_sheet_that_a_book_lacks_is_said_once_not_to_be_read(tmp_path: Path) -> None:
+    link = '<head><link rel="stylesheet" href="{}"/></head><body>'
+    page = PAGE.format("<p>One</p>")
+    addresses = {"a": "x.css", "b": "./x.css", "c": "../styles/a%20sheet.css"}
+    pages = {
+        name: page.replace("<body>", link.format(address)).encode()
+        for name, address in addresses.items()
+    }
+    found = read_manuscript(book_of(tmp_path / "moon.epub", "a b c", pages))
+    assert lost(found, LossKind.STYLES) == ["x.css"]
+
+
 def test_a_sheet_to_which_many_pages_link_is_read_once(
     tmp_path: Path, monkeypatch: pytest.MonkeyPatch
 ) -> None:
@@ -1135,7 +1147,7 @@ def test_the_rules_of_a_sheet_are_ordered_once_for_all_pages_and_as_far_as_a_lim
     monkeypatch.setattr(style_sheets, "_OF_ORDER", style_sheets._MOST_STEPS)
     ordered.clear()
     found = contents.contents_of(data, ManuscriptKind.EPUB).losses
-    assert [each.what for each in found] == [LossKind.STYLES] * 3
+    assert [each.what for each in found] == [LossKind.STYLES]
     assert ordered == []
 
 

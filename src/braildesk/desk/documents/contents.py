@@ -53,6 +53,7 @@ from braildesk.desk.documents.sheets import (
     Rules,
     Sheet,
     Sheets,
+    beside,
     imports_of,
     own_values,
     rules_of,
@@ -166,14 +167,16 @@ class Contents:
     losses: list[Loss] = field(default_factory=list)
     #: The numbers of lists and headings that aren't typed as they are in print.
     numbers: list[Loss] = field(default_factory=list)
+    #: The parts of the style sheets that aren't read.
+    _unread: set[str] = field(default_factory=set)
 
     def lose(self, what: LossKind, words: str) -> None:
         """Notes words, if there are any."""
         if shown := plain(words.replace("\n", " ")):
             self.losses.append(Loss(what, shown, shown))
 
-    def note_page(self, page: "_Html") -> None:
-        """Notes the numbers of a page that is typed which aren't so in print."""
+    def note_page(self, page: "_Html", part: str = "") -> None:
+        """Notes the numbers of a page that is typed which aren't so in print, and the sheets that weren't read."""
         self.note_numbers(page.numbers)
         for words in page.joined:
             self.lose(LossKind.JOINED, words)
@@ -186,7 +189,9 @@ class Contents:
         for words in page.unsure:
             self.numbers.append(Loss(LossKind.SHEET, words, words))
         for address in page.unread:
-            self.lose(LossKind.STYLES, address[:_SHOWN])
+            if (sheet := beside(part, address)) not in self._unread:
+                self._unread.add(sheet)
+                self.lose(LossKind.STYLES, address[:_SHOWN])
         if page.has_more_rules:
             first = _first(page.passages)
             self.losses.append(Loss(LossKind.RULES, first, first))
@@ -639,9 +644,9 @@ def _of_epub(container: zipfile.ZipFile, found: Contents) -> None:
     package = Package(container)
     names = frozenset(container.namelist())
 
-    def text_of(sheet: str) -> str:
+    def text_of(sheet: str) -> str | None:
         is_there = sheet in names
-        return part_of(container, sheet).decode(errors="replace") if is_there else ""
+        return part_of(container, sheet).decode(errors="replace") if is_there else None
 
     effort = Effort()
     sheets = Sheets(text_of, effort)
@@ -661,7 +666,7 @@ def _of_epub(container: zipfile.ZipFile, found: Contents) -> None:
             found.lose(LossKind.CONTENTS, _first(read.lists))
             continue
         found.passages += read.lists
-        found.note_page(read)
+        found.note_page(read, page.part)
         if not page.is_in_order:
             found.lose(LossKind.ASIDE, _first(read.passages))
 

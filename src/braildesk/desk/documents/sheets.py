@@ -300,16 +300,16 @@ class Sheet:
 class Sheets:
     """The style sheets of a container by their parts, each of which is read once."""
 
-    def __init__(self, text_of: Callable[[str], str], effort: Effort) -> None:
-        #: What the text of a part is, nothing of one that isn't there.
+    def __init__(self, text_of: Callable[[str], str | None], effort: Effort) -> None:
+        #: What the text of a part is; None of one that isn't there.
         self._text_of = text_of
         self._effort = effort
         self._own: dict[str, tuple[tuple[str, ...], tuple[Rule, ...]]] = {}
         self._whole: dict[str, Rules | None] = {}
 
     def linked(self, part: str, address: str) -> Rules | None:
-        """The rules of the sheet to which a part links; None if not all that it imports is read."""
-        sheet = _beside(part, address)
+        """The rules of the sheet to which a part links; None if it isn't there, or not all that it imports is read."""
+        sheet = beside(part, address)
         if sheet not in self._whole:
             rules: list[Rule] = []
             is_whole = self._add(sheet, 1, set(), rules)
@@ -326,7 +326,9 @@ class Sheets:
         seen.add(sheet)
         if sheet not in self._own:
             text = self._text_of(sheet)
-            imported = dict.fromkeys(_beside(sheet, each) for each in imports_of(text))
+            if text is None:
+                return depth > 1
+            imported = dict.fromkeys(beside(sheet, each) for each in imports_of(text))
             self._own[sheet] = tuple(imported), rules_of(text)
         inner, own = self._own[sheet]
         is_whole = all(self._add(each, depth + 1, seen, rules) for each in inner)
@@ -351,7 +353,7 @@ def imports_of(text: str) -> tuple[str, ...]:
     return tuple(found)
 
 
-def _beside(part: str, address: str) -> str:
+def beside(part: str, address: str) -> str:
     """The part to which an address leads from another one."""
     return normpath(str(PurePosixPath(part).parent / unquote(address)))
 
