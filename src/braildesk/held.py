@@ -31,7 +31,7 @@ from braildesk.workshop import (
     give_list,
     place_of,
 )
-from braildesk.writers import has_more_writers
+from braildesk.writers import has_more_readers, has_more_writers
 
 
 @contextmanager
@@ -85,7 +85,8 @@ def fit_log(book: BookFile) -> None:
     """Sees to it that a log lies beside a book, and that nobody may write it who may not write the book.
 
     What stands there is taken into the book. ``CannotOpen`` where such a log has work, of which nobody
-    knows whose it is, or can't be removed. One of one's own gets the mode that the book has by now.
+    knows whose it is, or can't be removed. One of one's own gets the mode that the book has by now,
+    and one without work is made anew where more may read it.
     """
     path, name = Path(book.real), Path(book.log).name
     if not os.access(path, os.W_OK):
@@ -103,7 +104,7 @@ def fit_log(book: BookFile) -> None:
 
 
 def _remove_unfit(book: BookFile, folder: int, name: str, file: BinaryIO) -> None:
-    """Removes a log without work that this user may not use, or others may write who may not write the book."""
+    """Removes a log without work that this user may not use, or others may use who may not use the book."""
     with suppress(FileNotFoundError):
         found = os.stat(name, dir_fd=folder, follow_symlinks=False)
         _refuse_other(found)
@@ -119,7 +120,7 @@ def _is_unfit(folder: int, name: str, file: BinaryIO) -> bool:
     if not os.access(name, os.R_OK | os.W_OK, dir_fd=folder):
         return True
     with alone(folder, name) as log:
-        return has_more_writers(log, file)
+        return has_more_writers(log, file) or has_more_readers(log, file)
 
 
 def _begin_log(folder: int, name: str, file: BinaryIO) -> None:
@@ -139,11 +140,14 @@ def _begin_log(folder: int, name: str, file: BinaryIO) -> None:
 def _give_mode(log: BinaryIO, file: BinaryIO) -> None:
     """Gives a log of one's own the mode and the group that its book has by now.
 
-    What a list of access gives to single users stays as it is.
+    What a list of access gives to single users stays as it is, unless they may not read the book.
     """
     found, like = os.fstat(log.fileno()), os.fstat(file.fileno())
-    is_own = os.geteuid() in (0, found.st_uid)
-    if is_own and not access_list(file.fileno()) and _access(found) != _access(like):
+    if os.geteuid() not in (0, found.st_uid):
+        return
+    if is_read := has_more_readers(log, file):
+        give_list(log.fileno(), file.fileno())
+    if is_read or not access_list(file.fileno()) and _access(found) != _access(like):
         give_access(log.fileno(), file.fileno())
 
 

@@ -1,4 +1,4 @@
-"""Who may write a file, by its mode and by the list of access (ACL) that it may have."""
+"""Who may write or read a file, by its mode and by the list of access (ACL) that it may have."""
 
 import os
 from typing import BinaryIO
@@ -9,40 +9,49 @@ from braildesk.workshop import access_list
 #: named; and what users and groups that are named may do at most.
 _USER, _OWN_GROUP, _GROUP, _MOST, _OTHERS = 0x02, 0x04, 0x08, 0x10, 0x20
 #: A user or a group by its number, or anybody.
-_Writer = tuple[int, int]
+_User = tuple[int, int]
 _ANYBODY = (_OTHERS, 0)
 
 
 def has_more_writers(file: BinaryIO, other: BinaryIO) -> bool:
     """Whether somebody may write a file who may not write another one."""
-    known = _writers(other)
+    return _has_more(file, other, os.W_OK)
+
+
+def has_more_readers(file: BinaryIO, other: BinaryIO) -> bool:
+    """Whether somebody may read a file who may not read another one."""
+    return _has_more(file, other, os.R_OK)
+
+
+def _has_more(file: BinaryIO, other: BinaryIO, leave: int) -> bool:
+    known = _users(other, leave)
     if _ANYBODY in known:
         return False
-    return not all(_is_one_of(known, each) for each in _writers(file))
+    return not all(_is_one_of(known, each) for each in _users(file, leave))
 
 
-def _writers(file: BinaryIO) -> frozenset[_Writer]:
-    """Who may write a file, with its owner, who may give that leave at any time."""
+def _users(file: BinaryIO, leave: int) -> frozenset[_User]:
+    """Who has leave to use a file, with its owner, who may give that leave at any time."""
     found = os.fstat(file.fileno())
     by_mode = [(_OWN_GROUP, found.st_mode >> 3, 0), (_OTHERS, found.st_mode, 0)]
     listed = access_list(file.fileno()) or by_mode
-    most = next((may for tag, may, _ in listed if tag == _MOST), os.W_OK)
-    writers = {(_USER, found.st_uid)}
+    most = next((may for tag, may, _ in listed if tag == _MOST), leave)
+    users = {(_USER, found.st_uid)}
     for tag, may, whom in listed:
-        if tag == _OTHERS and may & os.W_OK:
-            writers.add(_ANYBODY)
-        elif tag == _OWN_GROUP and may & most & os.W_OK:
-            writers.add((_GROUP, found.st_gid))
-        elif tag in (_USER, _GROUP) and may & most & os.W_OK:
-            writers.add((tag, whom))
-    return frozenset(writers)
+        if tag == _OTHERS and may & leave:
+            users.add(_ANYBODY)
+        elif tag == _OWN_GROUP and may & most & leave:
+            users.add((_GROUP, found.st_gid))
+        elif tag in (_USER, _GROUP) and may & most & leave:
+            users.add((tag, whom))
+    return frozenset(users)
 
 
-def _is_one_of(known: frozenset[_Writer], writer: _Writer) -> bool:
-    """Whether somebody is among those who may write a file, as this user and root are."""
-    kind, number = writer
-    if writer in known or kind != _USER:
-        return writer in known
+def _is_one_of(known: frozenset[_User], who: _User) -> bool:
+    """Whether somebody is among those who may use a file, as this user and root are."""
+    kind, number = who
+    if who in known or kind != _USER:
+        return who in known
     if number in (0, os.geteuid()):
         return True
     import pwd  # which few openings need

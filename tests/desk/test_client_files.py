@@ -1219,6 +1219,39 @@ def test_a_log_that_a_colleague_began_may_be_written_by_who_owns_the_book(
 
 
 @NEEDS_ROOT
+@pytest.mark.parametrize(
+    "owner, has_work, listed",
+    [(STRANGER, False, False), (STRANGER - 1, True, False), (STRANGER - 1, True, True)],
+)
+def test_nobody_may_read_a_log_who_may_not_read_its_book(
+    book: Path, owner: int, has_work: bool, listed: bool
+) -> None:
+    log, own = Path(f"{book}-wal"), STRANGER - 1
+    if has_work:
+        killed_after(book, "of the owner")
+    log.touch()
+    for path, uid, mode in ((book, own, 0o660), (log, owner, 0o664)):
+        os.chown(path, uid, own)
+        path.chmod(mode)
+    # a colleague may use the book by a list of access, or another may read what is left of its log by one
+    path, whom, may = (log, STRANGER - 2, 4) if listed else (book, STRANGER, 6)
+    who = (1, 6, NOBODY), (2, may, whom), (4, 6, NOBODY), (16, 6, NOBODY)
+    entries = [struct.pack("<HHI", *each) for each in (*who, (32, 0, NOBODY))]
+    try:
+        names = b"".join([struct.pack("<I", 2), *entries])
+        os.setxattr(path, "system.posix_acl_access", names)
+    except OSError:
+        pytest.skip("the file system keeps no such lists")
+    lead_to(book.parent)
+    book.parent.chmod(0o777)
+    assert as_stranger(lambda: log.open("rb").close(), STRANGER - 2) == ""
+    assert as_stranger(lambda: fit_log(BookFile(str(book))), own) == ""
+    assert as_stranger(lambda: log.open("rb").close(), STRANGER - 2) != ""
+    assert as_stranger(lambda: log.open("r+b").close(), own) == ""
+    assert as_stranger(lambda: Session(book).close(), own) == ""
+
+
+@NEEDS_ROOT
 def test_a_log_without_work_is_made_anew_where_the_book_may_be_used_again(
     book: Path, tmp_path: Path
 ) -> None:
