@@ -50,8 +50,6 @@ _ROOM = "Let TMPDIR name a folder with room."
 _OF_PLACE = (Why.NO_ROOM, Why.OVER_QUOTA, Why.READ_ONLY, Why.DENIED)
 #: Whether the copy takes the place of a file that is held.
 _Replaces = Callable[[str, BinaryIO], bool]
-#: How the names end of what a program may look for beside a book.
-_BESIDE = ("-wal", "-shm", "-journal")
 #: What is said where a file may be written, and none may be put in its place: a mount, or a folder in
 #: which nothing may be made.
 _MAY_NOT_BE_REPLACED = (errno.EPERM, errno.EACCES, errno.EBUSY)
@@ -431,11 +429,10 @@ def _taken(named: str) -> FileIsThere:
 
 def _judge_name(named: str, kind: type[NotMade], what: str) -> None:
     """Whether a book may get a name: not one by which what belongs to another one is looked for."""
-    path = real_path(named)
-    for ending in filter(path.endswith, _BESIDE):
+    if book := opening.book_beside(real_path(named)):
         raise kind(
-            f"“{named}” is the name of a file that belongs to the book"
-            f" “{path.removesuffix(ending)}”. Take another path for the {what}."
+            f"“{named}” is the name of a file that belongs to the book “{book}”. Take another path for"
+            f" the {what}."
         )
 
 

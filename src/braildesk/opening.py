@@ -40,6 +40,8 @@ _SMALLEST_PAGE = 512
 MAGIC = b"SQLite format 3\0"
 #: What a log begins with, by its two orders of bytes.
 LOGS = (b"\x37\x7f\x06\x82", b"\x37\x7f\x06\x83")
+#: How the names end of what a program may look for beside a book.
+_BESIDE = ("-wal", "-shm", "-journal")
 #: Where the system shows what it has in things that look like files.
 _OF_SYSTEM = ("/proc/", "/sys/", "/dev/fd/", "/dev/std")
 #: With less room than this on its disk a book may not be kept, in bytes.
@@ -55,6 +57,12 @@ def word(path: str | PathLike[str]) -> str | None:
     except UnicodeError:
         return None
     return None if b"\0" in encoded else text
+
+
+def book_beside(path: str) -> str | None:
+    """The path of the book that would have a file of such a name beside it, if a book may have one."""
+    found = (path.removesuffix(each) for each in _BESIDE if path.endswith(each))
+    return next(found, None)
 
 
 def is_file_or_free(path: str) -> bool:

@@ -407,6 +407,70 @@ def test_a_log_is_not_replaced_since_it_may_have_what_its_book_lacks(
         assert log.read_bytes() == before
 
 
+ENDINGS = ("-wal", "-shm", "-journal")
+
+
+@pytest.mark.parametrize("ending", ENDINGS)
+@pytest.mark.parametrize("is_empty", [True, False])
+def test_no_file_gets_a_name_by_which_a_program_looks_for_what_belongs_to_a_book(
+    tmp_path: Path, ending: str, is_empty: bool
+) -> None:
+    book, file = tmp_path / "moon", tmp_path / f"moon{ending}"
+    book.write_bytes(b"SQLite format 3\0 and more")
+    if is_empty:
+        file.touch()
+    with pytest.raises(NoPlaceForAFile) as caught:
+        write_whole(file, b"pages")
+    assert caught.value.strerror == (
+        "a file of that name would be taken for a part of the book moon"
+    )
+    assert file.exists() == is_empty and not (is_empty and file.read_bytes())
+    assert len(os.listdir(tmp_path)) == 1 + is_empty
+
+
+@pytest.mark.parametrize("kind", ["nothing", "text", "folder", "link"])
+def test_a_file_gets_such_a_name_where_no_book_has_it_besides(
+    tmp_path: Path, kind: str
+) -> None:
+    other = tmp_path / "moon"
+    match kind:
+        case "text":
+            other.write_text("The moon\n")
+        case "folder":
+            other.mkdir()
+        case "link":
+            # beside which nothing is looked for
+            (tmp_path / "book").write_bytes(b"SQLite format 3\0")
+            other.symlink_to("book")
+    for ending in ENDINGS:
+        file = tmp_path / f"moon{ending}"
+        write_whole(file, b"pages")
+        assert file.read_bytes() == b"pages"
+
+
+def test_no_command_puts_a_file_where_the_log_of_a_book_would_be(moon: Path) -> None:
+    other = moon.with_name("other.braildesk")
+    shutil.copyfile(moon, other)
+    moon.with_name("text.txt").write_text("The sun\n")
+    before = sorted(os.listdir(moon.parent))
+    why = "a file of that name would be taken for a part of the book other.braildesk."
+    for ending in ENDINGS:
+        name = f"other.braildesk{ending}"
+        for words, said in (
+            (("proof", moon.name, name), f"{name} could not be written: {why}"),
+            (
+                ("import", moon.name, "text.txt", "--report", name),
+                f"The report can't be written to {name}: {why} Nothing was typed.",
+            ),
+        ):
+            found = scribe(*words, folder=moon.parent)
+            assert (found.status, found.shown, found.said) == (2, "", f"{said}\n")
+        for command in (("new", name), ("copy", moon.name, name)):
+            found = scribe(*command, folder=moon.parent)
+            assert found.status == 2 and "belongs to the book" in found.said
+    assert set(os.listdir(moon.parent)) - {f"{moon.name}-wal"} == set(before)
+
+
 @NEEDS_ROOT
 def test_a_file_that_can_not_be_read_may_be_a_book_and_is_not_replaced(
     tmp_path: Path,

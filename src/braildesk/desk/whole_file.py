@@ -11,7 +11,13 @@ from dataclasses import dataclass
 from pathlib import Path
 
 from braildesk.desk import Problem
-from braildesk.opening import LOGS, MAGIC, has_tables_of_book
+from braildesk.opening import (
+    LOGS,
+    MAGIC,
+    book_beside,
+    has_tables_of_book,
+    may_be_book,
+)
 from braildesk.protocol.value import Value
 from braildesk.workshop import (
     Listed,
@@ -105,9 +111,9 @@ def write_whole(
     `MayNotLast` comes after it, and so does `Swapped`, if another file has the name then. The name
     alone is replaced: a link there is gone and the file that it led to stays as it was, and a pipe
     of that name isn't opened. A file of one's own keeps its permissions to read and write. Any other
-    gets what is said here and the umask allows. A book or a log is never replaced, nor, with
-    `AnotherIsThere`, what may not be by its front, if that is asked, unless it is an empty file, as
-    `mktemp` makes one.
+    gets what is said here and the umask allows. A book or a log is never replaced, nor is a name given
+    by which a log is looked for. Nor, with `AnotherIsThere`, is what may not be replaced by its front,
+    if that is asked, unless it is an empty file, as `mktemp` makes one.
     """
     path = path if path.name else path.resolve()
     folder = os.open(path.parent, os.O_RDONLY | os.O_DIRECTORY | os.O_CLOEXEC)
@@ -175,6 +181,7 @@ def _kept_permissions(name: str, folder: int, replaces: Replaces | None) -> Kept
     try:
         older = os.stat(name, dir_fd=folder, follow_symlinks=False)
     except FileNotFoundError:
+        _judge_name(name, folder)
         return None
     if stat.S_ISDIR(older.st_mode):
         raise IsADirectoryError(errno.EISDIR, os.strerror(errno.EISDIR))
@@ -192,6 +199,7 @@ def _kept_permissions(name: str, folder: int, replaces: Replaces | None) -> Kept
         # it may have what its book lacks
         why = "the log of a book is there, which was left as it is"
         raise NoPlaceForAFile(errno.EINVAL, why)
+    _judge_name(name, folder)
     is_empty = is_file and not (older.st_size or head)
     if not (replaces is None or is_empty or is_file and replaces(head)):
         is_link = stat.S_ISLNK(older.st_mode)
@@ -200,6 +208,16 @@ def _kept_permissions(name: str, folder: int, replaces: Replaces | None) -> Kept
     if not is_file or older.st_uid != os.geteuid():
         return None
     return _kept(name, folder, older)
+
+
+def _judge_name(name: str, folder: int) -> None:
+    """Refuses a name by which what belongs to a book is looked for, if that is there, and no link to it."""
+    book = book_beside(name)
+    path = f"/proc/self/fd/{folder}/{book}"
+    is_file = os.path.isfile(path) and not os.path.islink(path)
+    if book is not None and is_file and may_be_book(path):
+        why = f"a file of that name would be taken for a part of the book {book}"
+        raise NoPlaceForAFile(errno.EINVAL, why)
 
 
 def _kept(name: str, folder: int, like: os.stat_result) -> Kept | None:
