@@ -91,11 +91,7 @@ def _new_book(
 ) -> None:
     if opening.word(asked.path) is None:
         raise cannot_open(asked, Why.NO_PATH)
-    if asked.path.endswith("/") and not os.path.isdir(asked.path):
-        raise NotMade(
-            f"“{asked.path}” ends in a slash, as only the path of a folder does. Nothing was made. Take"
-            " the path of a file."
-        )
+    _judge_slash(asked.path, NotMade)
     if _leads_nowhere(asked.path):
         raise NotMade(
             f"“{asked.path}” is a link that leads to no file. Nothing was made. Remove the link, or"
@@ -121,6 +117,15 @@ def _new_book(
         why = opening.SAID_OF_DISK.get(error.errno or 0) or opening.why(asked)
         raise cannot_open(asked, why) from None
     _carry_out(asked.path, program, holding)
+
+
+def _judge_slash(named: str, kind: type[NotMade]) -> None:
+    """Whether a path is that of a file; what opens it says of one that is there that it is a folder."""
+    if named.endswith("/") and not os.path.isdir(named):
+        raise kind(
+            f"“{named}” ends in a slash, as only the path of a folder does. Nothing was made. Take the"
+            " path of a file."
+        )
 
 
 def _leads_nowhere(path: str) -> bool:
@@ -380,7 +385,10 @@ def _claimed(
     """A path at which a copy may be put. The lock of a file that is there is held all the while."""
     if opening.word(named) is None:
         raise cannot_open(BookFile(named), Why.NO_PATH)
+    _judge_slash(named, NotCopied)
     path = real_path(named)
+    if os.path.isdir(path):
+        raise cannot_open(BookFile(named), Why.FOLDER)
     with ExitStack() as stack:
         if not os.path.lexists(named):
             _judge_log(named, NotCopied, "copy")

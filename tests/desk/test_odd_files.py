@@ -18,6 +18,7 @@ import braildesk
 from braildesk.desk.export import Job
 from braildesk.desk.import_text import bytes_of
 from braildesk.desk.layout import PageSize
+from braildesk.making import NotCopied
 
 from scribe.cli import run_words
 from scribe.prompt.trial import Trial
@@ -114,6 +115,52 @@ def test_a_path_of_any_kind_ends_each_command_in_a_sentence(
             if (kind, place) not in FINE:
                 changed = [path if word == place else word for word in words]
                 check_said(ran([name, *changed]), f"{name} {place}")
+
+
+#: Paths in which no file is made or read.
+FOLDERS = {"pages"}
+SLASH = "ends in a slash, as only the path of a folder does."
+
+
+def test_no_command_takes_a_path_with_a_slash_at_its_end_for_that_of_a_file(
+    sample: Path,
+) -> None:
+    report = ["moon.braildesk", "text.txt", "--report", "moon.html"]
+    tried = {**ALL, "import --report": report, "tune": ["moon.braildesk", "text.txt"]}
+    (sample / "moon.html").touch()
+    before = sorted(os.listdir(sample))
+    for name, words in tried.items():
+        for place in PLACES.intersection(words) - FOLDERS:
+            changed = [f"{word}/" if word == place else word for word in words]
+            found = ran([name.split()[0], *changed])
+            first = found.said.splitlines()[0]
+            assert (found.status, found.shown) == (1, ""), (name, place, found)
+            assert first.endswith(f": {place}/ {SLASH}"), (name, place, first)
+    assert sorted(os.listdir(sample)) == before
+    assert ran(["export", "moon.braildesk", "pages/"]).status == 0
+
+
+def test_a_path_with_a_slash_at_its_end_is_that_of_a_folder_that_is_there(
+    sample: Path,
+) -> None:
+    (sample / "sub").mkdir()
+    for path in ("sub/", "sub"):
+        for words in (["new", path], ["copy", "moon.braildesk", path]):
+            said = "“sub” is a folder and no file. Give the path of a file in it.\n"
+            assert ran(words) == Ran(2, "", said), words
+        assert ran(["copy", "moon.braildesk", path, "--overwrite"]).said == said
+    assert not os.listdir(sample / "sub")
+
+
+def test_no_copy_is_made_at_the_path_of_a_folder_that_is_not_there(
+    sample: Path,
+) -> None:
+    for path in (f"{sample}/sub/", f"{sample}/text.txt/"):
+        with pytest.raises(NotCopied) as caught:
+            braildesk.copy(sample / "moon.braildesk", path)
+        assert caught.value.sentence == (
+            f"“{path}” {SLASH} Nothing was made. Take the path of a file."
+        )
 
 
 def test_a_path_that_is_typed_with_nul_is_refused_in_a_sentence(sample: Path) -> None:

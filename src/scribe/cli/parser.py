@@ -1,7 +1,6 @@
 """The words of the command line: a parser that speaks in sentences, and what its words are."""
 
 import argparse
-import os
 import re
 from collections.abc import Callable, Iterator, Sequence
 from contextlib import contextmanager
@@ -229,9 +228,11 @@ def add_file(
     """
     says = f"the file of the book{without}"
     if without:
-        parser.add_argument("file", metavar="FILE", type=_file, nargs="?", help=says)
+        parser.add_argument(
+            "file", metavar="FILE", type=file_path, nargs="?", help=says
+        )
     else:
-        parser.add_argument("file", metavar="FILE", type=_file, help=says)
+        parser.add_argument("file", metavar="FILE", type=file_path, help=says)
     parser.add_argument(
         "--wait",
         metavar="SECONDS",
@@ -241,17 +242,6 @@ def add_file(
         f" {wait or 0:g} if it isn't given"
         + (f", or {USUAL_WAIT:g} to change it" if wait is None else ""),
     )
-
-
-def _file(word: str) -> Path:
-    """The path of a file; what opens it says of one that is there that it is a folder."""
-    path = word.rstrip("/")
-    is_beside = os.path.isdir(os.path.dirname(path) or ".")
-    if path not in ("", word) and is_beside and not os.path.lexists(path):
-        raise argparse.ArgumentTypeError(
-            f"{word} ends in a slash, as only the path of a folder does"
-        )
-    return file_path(word)
 
 
 def add_paragraph(
@@ -326,6 +316,7 @@ number = argument(typed.number)
 text = argument(typed.text)
 words = argument(typed.words)
 after = argument(typed.after)
+some_path = argument(typed.some_path)
 file_path = argument(typed.file_path)
 
 
@@ -373,6 +364,11 @@ def taken_for_options(words: Sequence[str], refused: WordsRefused) -> list[str]:
     if not _ARE_LACKING.match(refused.sentence) or given.issubset(options):
         return []
     return ["A word that begins with a hyphen, and is no option, comes after --."]
+
+
+def table_name(word: str) -> str:
+    """The name of a table of liblouis, which ends in no slash, or the path of its file."""
+    return str(file_path(word)) if word.endswith("/") else word
 
 
 def readable(word: str) -> Path:

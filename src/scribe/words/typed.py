@@ -1,5 +1,6 @@
 """What a person types, read as what was asked for: numbers, texts, paragraphs and paths."""
 
+import os
 import re
 from collections.abc import Iterator
 from pathlib import Path
@@ -155,7 +156,7 @@ def path_word(path: Path | str) -> str:
     return f"./{word}" if word.startswith("-") else word
 
 
-def file_path(word: str) -> Path:
+def some_path(word: str) -> Path:
     """The path that a word is, which is not empty."""
     if not word:
         # it would be the folder in which scribe was started
@@ -163,9 +164,19 @@ def file_path(word: str) -> Path:
     return Path(word)
 
 
+def file_path(word: str) -> Path:
+    """The path of a file; what opens it says of one that is there that it is a folder."""
+    path = some_path(word)
+    # a path of Python has no slash at its end any more
+    if word.endswith("/") and os.path.isdir(path.parent) and not os.path.isdir(path):
+        raise InvalidInput(f"{word} ends in a slash, as only the path of a folder does")
+    return path
+
+
 def given_path(word: str) -> Path:
-    """The path that was typed where one has to be."""
-    return typed_path(str(file_path(word)))
+    """The path of a file that was typed where one has to be."""
+    path = typed_path(str(some_path(word)))
+    return file_path(f"{path}/") if word.endswith("/") else path
 
 
 def typed_path(word: str) -> Path:

@@ -35,6 +35,7 @@ from scribe.cli.parser import (
     command_parser,
     readable,
     file_path,
+    table_name,
 )
 from scribe.words.console import Console
 from scribe.words.import_text import unreadable
@@ -91,7 +92,11 @@ def add_parser(subparsers: Subparsers) -> ArgumentParser:
     """Adds the words of `bring`."""
     parser = command_parser(subparsers, "bring", EXAMPLE, MORE)
     parser.add_argument(
-        "table", metavar="TABLE", nargs="?", help="the table, by its name or its file"
+        "table",
+        metavar="TABLE",
+        nargs="?",
+        type=table_name,
+        help="the table, by its name or its file",
     )
     parser.add_argument(
         "file",

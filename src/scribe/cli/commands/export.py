@@ -16,7 +16,7 @@ from scribe.cli.parser import (
     argument,
     command_parser,
     number,
-    file_path,
+    some_path,
 )
 from scribe.words.console import Console
 from scribe.words.export import export_in_words, pages_in_words
@@ -43,7 +43,7 @@ def add_parser(subparsers: Subparsers) -> ArgumentParser:
     parser = command_parser(subparsers, "export", EXAMPLE, MORE)
     add_file(parser)
     parser.add_argument(
-        "folder", metavar="FOLDER", type=file_path, help="where the volumes are written"
+        "folder", metavar="FOLDER", type=some_path, help="where the volumes are written"
     )
     add_page_size(parser)
     which = parser.add_mutually_exclusive_group()

@@ -17,7 +17,14 @@ from braildesk.tables.convert.tuning import Tuned, tune
 from braildesk.text.wrapping import wrap
 
 from scribe.cli.opened_book import open_session
-from scribe.cli.parser import Subparsers, add_file, add_width, command_parser, readable
+from scribe.cli.parser import (
+    Subparsers,
+    add_file,
+    add_width,
+    command_parser,
+    readable,
+    table_name,
+)
 from scribe.words.changes import at_version
 from scribe.words.console import Console
 from scribe.words.status import Status, Stop
@@ -45,7 +52,9 @@ def add_parser(subparsers: Subparsers) -> ArgumentParser:
         MORE,
     )
     add_file(parser)
-    parser.add_argument("source", metavar="TABLE", help="the table of liblouis")
+    parser.add_argument(
+        "source", metavar="TABLE", type=table_name, help="the table of liblouis"
+    )
     parser.add_argument(
         "--table",
         metavar="NAME",
