@@ -450,6 +450,11 @@ def _judge_log(named: str, kind: type[NotMade], what: str) -> None:
     What keeps a book from being opened there keeps it from being made too.
     """
     _judge_name(named, kind, what)
+    if opening.is_of_system(named):
+        raise kind(
+            f"“{named}” is where the system shows what it has itself, as in /proc and /sys, and no book is"
+            f" made there. Take another path for the {what}."
+        )
     log = log_path(named)
     if not is_log(log):
         raise cannot_open(BookFile(named), Why.NO_LOG)

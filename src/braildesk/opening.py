@@ -79,8 +79,13 @@ def _is_file(path: str, mode: int) -> bool:
 
     What a process has open has other names in another one, and what stands there may be its output.
     """
+    return stat.S_ISREG(mode) and not is_of_system(path)
+
+
+def is_of_system(path: str) -> bool:
+    """Whether a path is one at which the system shows what it has, and keeps no file."""
     names = os.path.abspath(path), os.path.realpath(path)
-    return stat.S_ISREG(mode) and not any(each.startswith(_OF_SYSTEM) for each in names)
+    return any(f"{each}/".startswith(_OF_SYSTEM) for each in names)
 
 
 #: What a failure of the system says of a disk.

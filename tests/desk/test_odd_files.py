@@ -18,7 +18,8 @@ import braildesk
 from braildesk.desk.export import Job
 from braildesk.desk.import_text import bytes_of
 from braildesk.desk.layout import PageSize
-from braildesk.making import NotCopied
+from braildesk.desk.whole_file import NoPlaceForAFile, write_whole
+from braildesk.making import NotCopied, NotMade
 
 from scribe.cli import run_words
 from scribe.prompt.trial import Trial
@@ -161,6 +162,54 @@ def test_no_copy_is_made_at_the_path_of_a_folder_that_is_not_there(
         assert caught.value.sentence == (
             f"“{path}” {SLASH} Nothing was made. Take the path of a file."
         )
+
+
+@pytest.mark.parametrize("user", [0, NOBODY])
+@pytest.mark.parametrize(
+    "path", ["/proc/x", "/proc/self/x", "/proc/sys/x", "/sys/x", "/dev/fd/x"]
+)
+def test_a_path_of_the_system_is_said_to_be_one_whoever_asks_for_a_book_there(
+    path: str, user: int
+) -> None:
+    if os.geteuid():
+        pytest.skip("only root is another user here")
+    begun = os.fork()
+    if not begun:
+        # what is of the user who began it may be kept from this one
+        os.setresuid(user, user, user)
+        is_said = False
+        try:
+            braildesk.new_book(path)
+        except NotMade as refused:
+            is_said = refused.sentence == (
+                f"“{path}” is where the system shows what it has itself, as in /proc and /sys, and no"
+                " book is made there. Take another path for the new book."
+            )
+        finally:
+            os._exit(not is_said)
+    assert os.waitpid(begun, 0)[1] == 0
+
+
+def test_no_file_is_written_at_a_path_of_the_system(sample: Path) -> None:
+    why = "in its folder the system shows what it has itself, and no file is made there"
+    for path in ("/proc/self/x", "/proc/sys/x", "/sys/x"):
+        with pytest.raises(NoPlaceForAFile) as caught:
+            write_whole(Path(path), b"pages")
+        assert caught.value.strerror == why
+        for words, said in (
+            (["proof", "moon.braildesk", path], f"{path} could not be written: {why}."),
+            (
+                ["copy", "moon.braildesk", path],
+                f"“{path}” is where the system shows what it has itself, as in /proc and /sys, and no"
+                " book is made there. Take another path for the copy.",
+            ),
+        ):
+            assert ran(words) == Ran(2, "", f"{said}\n")
+    # what a link leads to is another matter
+    link = sample / "link"
+    link.symlink_to("/sys/x")
+    write_whole(link, b"pages")
+    assert link.read_bytes() == b"pages" and not link.is_symlink()
 
 
 def test_a_path_that_is_typed_with_nul_is_refused_in_a_sentence(sample: Path) -> None:

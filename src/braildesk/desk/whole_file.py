@@ -16,6 +16,7 @@ from braildesk.opening import (
     MAGIC,
     book_beside,
     has_tables_of_book,
+    is_of_system,
     may_be_book,
 )
 from braildesk.protocol.value import Value
@@ -211,7 +212,13 @@ def _kept_permissions(name: str, folder: int, replaces: Replaces | None) -> Kept
 
 
 def _judge_name(name: str, folder: int) -> None:
-    """Refuses a name by which what belongs to a book is looked for, if that is there, and no link to it."""
+    """Refuses a name by which what belongs to a book is looked for, if that is there, and no link to it.
+
+    In a folder of the system it refuses any.
+    """
+    if is_of_system(os.path.realpath(f"/proc/self/fd/{folder}")):
+        why = "in its folder the system shows what it has itself, and no file is made there"
+        raise NoPlaceForAFile(errno.EINVAL, why)
     book = book_beside(name)
     path = f"/proc/self/fd/{folder}/{book}"
     is_file = os.path.isfile(path) and not os.path.islink(path)
