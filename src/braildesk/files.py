@@ -12,6 +12,7 @@ from braildesk.opening import has_work, reader, waited
 from braildesk.program import StrPath
 from braildesk.protocol.asked import BookFile
 from braildesk.protocol.codes import Code
+from braildesk.protocol.sentences import of_failure
 from braildesk.protocol.values import Table
 from braildesk.refusals import Failed, cannot_open, refused
 from braildesk.text import limits
@@ -109,7 +110,7 @@ def _copied(book: BookFile, file: BinaryIO, log: str) -> Iterator[Path]:
 def _no_copy(book: BookFile, error: OSError) -> Failed:
     return Failed(
         f"The book “{book.path}” could not be copied to a temporary folder, in which its tables are"
-        f" read with the work in its log: {error.strerror}. Nothing was changed. Let TMPDIR name a"
+        f" read with the work in its log: {of_failure(error)}. Nothing was changed. Let TMPDIR name a"
         " folder with room for the book."
     )
 

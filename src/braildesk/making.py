@@ -16,7 +16,7 @@ from braildesk.opening import has_journal, has_work, is_log, waited
 from braildesk.program import StrPath
 from braildesk.protocol.asked import BookFile, NewBook, log_path, real_path
 from braildesk.protocol.requests import Command
-from braildesk.protocol.sentences import Why
+from braildesk.protocol.sentences import Why, of_failure
 from braildesk.refusals import (
     CannotOpen,
     DeskError,
@@ -301,7 +301,7 @@ def _temporary() -> Iterator[Path]:
         try:
             path = stack.enter_context(made_for_a_while())
         except OSError as error:
-            why = f"no temporary folder can be made ({error.strerror or error})"
+            why = f"no temporary folder can be made ({of_failure(error)})"
             raise Failed(f"{why}. {_ROOM}") from error
         yield path
 
@@ -309,7 +309,7 @@ def _temporary() -> Iterator[Path]:
 def _may_not_last(what: str, failed: MayNotLast, after: str) -> Failed:
     return Failed(
         f"The {what} is made and whole, but its folder could not be brought to the disk:"
-        f" {failed.strerror}. After a loss of power {after}."
+        f" {of_failure(failed)}. After a loss of power {after}."
     )
 
 
@@ -494,7 +494,7 @@ def _checked(
 
 def _why(error: OSError | ValueError) -> str:
     """Why something failed, without the number of it and the path that was made beside the copy."""
-    return (isinstance(error, OSError) and error.strerror) or str(error)
+    return of_failure(error) if isinstance(error, OSError) else str(error)
 
 
 def _not_written(named: str, why: str) -> Failed:

@@ -14,6 +14,7 @@ from braildesk import program as programs
 from braildesk.held import copy_held
 from braildesk.opening import MAGIC, has_work, is_log, is_used
 from braildesk.program import StrPath
+from braildesk.protocol.sentences import of_failure
 from braildesk.refusals import Failed, Unopened
 from braildesk.watch import Watch
 from braildesk.workshop import (
@@ -328,7 +329,7 @@ class OpenFile:
                     raise Failed("The program did not write all of it to its file.")
                 return _put_beside(made, self.path, saved)
         except OSError as error:
-            raise Failed(f"{error.strerror or error}.") from error
+            raise Failed(f"{of_failure(error)}.") from error
 
     def save_text(self, text: str) -> str:
         """Puts a text to a new path beside the file."""
@@ -341,7 +342,7 @@ class OpenFile:
                     saved = os.fstat(written.fileno())
                 return _put_beside(made, self.path, saved, ".txt")
         except OSError as error:
-            raise Failed(f"{error.strerror or error}.") from error
+            raise Failed(f"{of_failure(error)}.") from error
 
     def _give_access(self, file: BinaryIO) -> None:
         """Lets those at a file that may read and write this one.

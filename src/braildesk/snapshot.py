@@ -19,7 +19,7 @@ from braildesk.held import copy_held, is_at_path, open_file
 from braildesk.opening import why_no_log
 from braildesk.program import StrPath
 from braildesk.protocol.asked import AskedOfFile, BookFile
-from braildesk.protocol.sentences import Why
+from braildesk.protocol.sentences import Why, of_failure
 from braildesk.refusals import Failed, Refused, cannot_open, refused_as
 from braildesk.session import Session
 from braildesk.workshop import give_access, made_for_a_while, open_made
@@ -127,5 +127,5 @@ def _header(log: str) -> bytes:
 def _not_copied(book: BookFile, error: OSError) -> Failed:
     return Failed(
         f"The book “{book.path}” could not be copied to a temporary folder, to be looked at there:"
-        f" {error.strerror}. Nothing was changed. Let TMPDIR name a folder with room for the book."
+        f" {of_failure(error)}. Nothing was changed. Let TMPDIR name a folder with room for the book."
     )

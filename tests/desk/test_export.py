@@ -60,7 +60,7 @@ def test_volumes_are_said_to_be_new_where_what_is_shown_of_them_can_not_be_writt
     assert ran == Ran(
         3,
         "",
-        "Standard output could not be written: No space left on device.\n"
+        "Standard output could not be written: there is no room on the disk.\n"
         "Volumes 1 and 2 are new.\n",
     )
     assert files(moon.parent / "out") == ["moon-1.brf", "moon-2.brf"]

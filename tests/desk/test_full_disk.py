@@ -159,10 +159,10 @@ CHANGING = {
 MAKING = {
     "new": "There is no room on the disk of “other.braildesk”. Nothing was changed. Make room there,"
     " and try again.",
-    "export": "Volume 1 could not be written: No space left on device. pages/moon-1.brf was not"
+    "export": "Volume 1 could not be written: there is no room on the disk. pages/moon-1.brf was not"
     " made.",
-    "proof": "moon.html could not be written: No space left on device.",
-    "copy": "The copy “copy.braildesk” could not be written",
+    "proof": "moon.html could not be written: there is no room on the disk.",
+    "copy": "The copy “copy.braildesk” could not be written: there is no room on the disk.",
 }
 
 

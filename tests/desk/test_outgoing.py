@@ -149,7 +149,7 @@ def test_what_fails_after_it_waited_is_called_by_its_name(
                     ahead.show(line)
                     ahead.flush()
     assert failed.value.sentence.startswith(
-        "Standard error could not be written: No space left on device."
+        "Standard error could not be written: there is no room on the disk."
     )
 
 

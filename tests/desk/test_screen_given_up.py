@@ -523,9 +523,11 @@ def test_what_is_in_the_way_is_said_once_until_it_is_another_thing(
     sat.press("o", "I")
     monkeypatch.setattr(OwnFolder, "write", no_room)
     sat.state = sat.desk.save_draft(sat.state)
-    assert "No space left on device" in sat.state.message
+    assert "there is no room on the disk" in sat.state.message
     # where scribe ends it is said whether it was said before or not
-    assert "No space left on device" in sat.desk.saved(sat.state.saying("")).message
+    assert (
+        "there is no room on the disk" in sat.desk.saved(sat.state.saying("")).message
+    )
 
 
 def no_room(*_: object) -> None:

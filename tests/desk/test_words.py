@@ -369,7 +369,9 @@ def test_a_full_output_is_said_and_ends_with_3(
             env=environment(),
         )
     assert done.returncode == 3
-    said = f"Standard output could not be written: No space left on device.{kept}\n"
+    said = (
+        f"Standard output could not be written: there is no room on the disk.{kept}\n"
+    )
     assert done.stderr.decode() == said
 
 

@@ -174,7 +174,7 @@ def test_nothing_is_said_to_be_exported_where_the_session_ended_before(
         ),
         (
             OSError(errno.ENOSPC, "No space left on device"),
-            "could not be written: No space left on device.",
+            "could not be written: there is no room on the disk.",
         ),
     ],
 )

@@ -84,7 +84,7 @@ def test_a_text_that_cannot_wait_is_said_not_to(small: Small, moon: Path) -> Non
     window, disk = small(moon, XDG_STATE_HOME=str(state))
     _fill(disk)
     _type(window)
-    window.says("No space left on device")
+    window.says("there is no room on the disk")
     window.press("Return")
     window.reads("Message", "Kept: correction 1 of paragraph 1.")
     window.press("Ctrl+q")
@@ -106,7 +106,7 @@ def test_volumes_that_find_no_room_are_said_not_to_be_made(
     window.click(window.part("push button", "OK", dialog))
     top = window.dialog("Export")
     report = window.part("text", "Export", top)
-    said = "Volume 1 could not be written: No space left on device."
+    said = "Volume 1 could not be written: there is no room on the disk."
     window.until(said, lambda: said in window.text_in(report))
     window.press("Escape")
     window.no_dialog()

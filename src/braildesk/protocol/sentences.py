@@ -3,6 +3,7 @@
 What stands in braces is filled by ``wording.py`` from what was asked and what was answered.
 """
 
+import errno
 import signal
 from collections.abc import Mapping
 from enum import StrEnum
@@ -229,6 +230,21 @@ UNOPENED = MappingProxyType(
         " braildesk doesn't read: ask whoever made it, or go on with an earlier copy.",
     }
 )
+
+
+#: What is said of a disk that takes no more, in place of the words of the system.
+_OF_FULL_DISK = MappingProxyType(
+    {
+        errno.ENOSPC: "there is no room on the disk",
+        errno.EDQUOT: "what you may use of the disk is used up (a quota)",
+    }
+)
+
+
+def of_failure(failure: OSError) -> str:
+    """Why the system failed, in its own words unless a disk is full; to stand after a colon."""
+    said = _OF_FULL_DISK.get(failure.errno or 0)
+    return said or failure.strerror or str(failure)
 
 
 #: What is said of a disk of which a quota leaves somebody little or nothing.

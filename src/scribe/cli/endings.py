@@ -179,9 +179,11 @@ def of_fault(fault: Exception, kept: str) -> str:
     try:
         path = _kept(fault)
     except OSError as error:
+        from braildesk.protocol.sentences import of_failure  # as above
+
         return (
             f"{what} {kept} Please report it. Its details could not be written to a file:"
-            f" {error.strerror}."
+            f" {of_failure(error)}."
         )
     return f"{what} {kept} Please report it with its details, which are in {path}."
 

@@ -16,6 +16,7 @@ from braildesk.desk.intake import Intake
 from braildesk.desk.proof import open_marks, proof_pages
 from braildesk.desk.whole_file import Access, write_whole
 from braildesk.protocol.requests import Command
+from braildesk.protocol.sentences import of_failure
 from braildesk.workshop import MayNotLast
 
 from scribe.window import dialogs
@@ -133,7 +134,7 @@ class Files:
                 raise Stop(may_not_last(file, failed)) from failed
             except OSError as failed:
                 raise Stop(
-                    f"{file} could not be written: {failed.strerror}."
+                    f"{file} could not be written: {of_failure(failed)}."
                 ) from failed
             said = f"{file}: {counted(len(pages), 'page')}."
             eight_dots = not_exported((each.volume, each.eight_dots) for each in pages)

@@ -325,7 +325,10 @@ def _closed_input() -> BinaryIO:
 
 
 def _why(cause: OSError) -> str:
-    return "it is closed" if cause.errno == errno.EBADF else str(cause.strerror)
+    # imported here, since few streams fail
+    from braildesk.protocol.sentences import of_failure
+
+    return "it is closed" if cause.errno == errno.EBADF else of_failure(cause)
 
 
 def _utf8_writer(descriptor: int) -> TextIO:

@@ -15,6 +15,8 @@ from braildesk.desk.drafts import (
     NotSaved,
     NotTaken,
 )
+from braildesk.protocol.sentences import of_failure
+
 from scribe.words.paragraph import counted, quoted
 
 _BEGUN = {
@@ -148,7 +150,7 @@ def not_kept(fault: NotKept) -> str:
         case NotAsKept(path=path, aside=aside):
             kept = f"It is kept as {aside}."
             if isinstance(aside, OSError):
-                kept = f"It can't be set aside: {aside.strerror}."
+                kept = f"It can't be set aside: {of_failure(aside)}."
             return (
                 f"{path} can't be read as what scribe kept there for the book. {kept} The book is"
                 " as it was."
@@ -161,7 +163,7 @@ def not_kept(fault: NotKept) -> str:
 
 
 def _not_saved(fault: NotSaved) -> str:
-    what, folder, why = _BEGUN[fault.what], fault.folder, fault.cause.strerror
+    what, folder, why = _BEGUN[fault.what], fault.folder, of_failure(fault.cause)
     if fault.is_out:
         return f"{what} can't be taken out of {folder}: {why}."
     where = f" in {folder}" if folder.is_absolute() else ""

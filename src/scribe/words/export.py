@@ -17,6 +17,7 @@ from braildesk.desk.export import (
     export_pages,
 )
 from braildesk.desk.ranges import NoPage, PageRange
+from braildesk.protocol.sentences import of_failure
 from braildesk.workshop import MayNotLast, Swapped
 
 from scribe.words.console import Console, OutputFailed
@@ -129,7 +130,7 @@ def _why_no_folder(none: NoFolder) -> str:
     if isinstance(none.cause, FileExistsError):
         return f"{none.folder} is no folder."
     if isinstance(none.cause, OSError):
-        return f"The folder {none.folder} can't be made: {none.cause.strerror}."
+        return f"The folder {none.folder} can't be made: {of_failure(none.cause)}."
     return f"{none.folder} can't be a path, which has no character U+0000."
 
 
@@ -145,7 +146,7 @@ def not_written(fault: NotWritten) -> str:
     if fault.changed is not None:
         pages = f" {fault.changed} is new, with the pages that change in it."
     return (
-        f"Volume {fault.volume} could not be written: {fault.cause.strerror}. {fault.file}"
+        f"Volume {fault.volume} could not be written: {of_failure(fault.cause)}. {fault.file}"
         f" {left}.{pages}{_files(fault.files)}"
     )
 

@@ -59,6 +59,7 @@ from braildesk.desk.unfinished import NotSeen, Unfinished
 from braildesk.desk.whole_file import AnotherIsThere, write_whole
 from braildesk.named_files import is_handed_over, is_same_file
 from braildesk.protocol.asked import journal_path, log_path, real_path
+from braildesk.protocol.sentences import of_failure
 from braildesk.text import characters, limits
 from braildesk.text.characters import visible
 from braildesk.text.excerpt import excerpt
@@ -234,7 +235,7 @@ def _write_report(job: Import, report: Path, lines: Sequence[str]) -> None:
         raise Stop(said, Status.FAILED) from cause
     except OSError as cause:
         raise Stop(
-            f"The report can't be written to {report}: {cause.strerror}. Nothing was typed.",
+            f"The report can't be written to {report}: {of_failure(cause)}. Nothing was typed.",
             status_of(cause),
         ) from cause
 

@@ -119,7 +119,10 @@ def of_system(failure: OSError, kept: str = _IN_THE_BOOK) -> str:
     # in place of a name there may be a descriptor
     paths = [each for each in names if isinstance(each, (str, bytes, os.PathLike))]
     named = " and ".join(f"“{os.fsdecode(each)}”" for each in paths)
-    why = failure.strerror or str(failure) or type(failure).__name__
+    # imported here and below, since little fails
+    from braildesk.protocol.sentences import of_failure
+
+    why = of_failure(failure) or type(failure).__name__
     what = f"{named} could not be read or written" if named else "The system failed"
     return f"{what}: {why}.{kept}"
 
@@ -139,9 +142,11 @@ def status_of(failure: OSError) -> Status:
 
 def may_not_last(file: Path, failure: OSError) -> str:
     """What is so of a file whose name may not outlast a loss of power."""
+    from braildesk.protocol.sentences import of_failure
+
     return (
         f"{file} is written, but its folder could not be brought to the disk:"
-        f" {failure.strerror}. After a loss of power the older file may be there."
+        f" {of_failure(failure)}. After a loss of power the older file may be there."
     )
 
 

@@ -8,6 +8,7 @@ from braildesk.desk.manuscript import UnreadableText
 from braildesk.desk.manuscripts import read_manuscript
 from braildesk.desk.whole_file import AnotherIsThere, judge_place, write_whole
 from braildesk.named_files import is_same_file
+from braildesk.protocol.sentences import of_failure
 from braildesk.tables.convert import manuscript_report, report
 from braildesk.tables.convert.addition import BadAddition
 from braildesk.tables.convert.conversion import (
@@ -299,7 +300,7 @@ def _written(text: str, arguments: Namespace, console: Console) -> Status:
     except MayNotLast as error:
         raise Stop(may_not_last(file, error), Status.FAILED) from error
     except OSError as error:
-        said = f"{file} could not be written: {error.strerror}."
+        said = f"{file} could not be written: {of_failure(error)}."
         raise Stop(said, status_of(error)) from error
     console.say(f"{file} was written, {text.count(chr(10)):,} lines.")
     return Status.DONE

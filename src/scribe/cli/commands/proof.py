@@ -12,6 +12,7 @@ from braildesk.desk.whole_file import (
     judge_place,
     write_whole,
 )
+from braildesk.protocol.sentences import of_failure
 from braildesk.workshop import MayNotLast
 
 from scribe.cli.opened_book import looked_at
@@ -105,7 +106,7 @@ def _written(
     except MayNotLast as error:
         raise Stop(may_not_last(arguments.proof, error), Status.FAILED) from error
     except OSError as error:
-        said = f"{arguments.proof} could not be written: {error.strerror}."
+        said = f"{arguments.proof} could not be written: {of_failure(error)}."
         raise Stop(said, status_of(error)) from error
     count = "1 page" if len(pages) == 1 else f"{len(pages):,} pages"
     console.show(f"{arguments.proof}: {count}.")
