@@ -74,7 +74,7 @@ def test_lines_that_need_what_is_left_out_are_counted_apart() -> None:
     assert agreement(COMPARED) == [
         "On 1,000 lines of shapes that were not used for the making, the cells are those of"
         " liblouis on 99.7%.",
-        "2 lines that differ need what the profile leaves out for good (several passes 2)."
+        "2 lines that differ need what a table of braildesk can't have (several passes 2)."
         " Of the others 99.89% agree.",
     ]
 
@@ -83,7 +83,7 @@ def test_one_line_is_said_to_be_one() -> None:
     assert agreement(Comparison(1, (difference("a", "several passes"),), {})) == [
         "On 1 line of shapes that were not used for the making, the cells are those of liblouis on"
         " 0%.",
-        "1 line that differs needs what the profile leaves out for good (several passes 1). Of the"
+        "1 line that differs needs what a table of braildesk can't have (several passes 1). Of the"
         " others 0% agree.",
     ]
 

@@ -79,8 +79,8 @@ def losses(made: Made, subject: Subject, addition: Addition | None = None) -> li
     sentences = []
     if count := len(made.without_cells):
         sentences.append(
-            f"{so_many(count, 'character')} {'has' if count == 1 else 'have'} no cells that the profile"
-            f" can write: {_characters(made.without_cells)}."
+            f"{so_many(count, 'character')} {'has' if count == 1 else 'have'} no cells that a table of"
+            f" braildesk can write: {_characters(made.without_cells)}."
         )
     added = addition.characters if addition is not None else frozenset()
     lacking = [
@@ -119,8 +119,8 @@ def unsettled(made: Made) -> list[str]:
         return []
     examples = ", ".join(f"\u201c{line}\u201d" for line in made.unsettled[:SHOWN])
     return [
-        f"{len(made.unsettled):,} of the places that liblouis was asked for can't be had by rules of the"
-        f" profile, as {examples}."
+        f"{len(made.unsettled):,} of the places that liblouis was asked for can't be had by rules of a"
+        f" table of braildesk, as {examples}."
     ]
 
 
@@ -155,7 +155,7 @@ def agreement(comparison: Comparison) -> list[str]:
         count = sum(apart.values())
         need = "that differs needs" if count == 1 else "that differ need"
         sentences.append(
-            f"{so_many(count, 'line')} {need} what the profile leaves out for good"
+            f"{so_many(count, 'line')} {need} what a table of braildesk can't have"
             f" ({named}). Of the others {percent(comparison.share)} agree."
         )
     return sentences
