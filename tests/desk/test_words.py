@@ -157,7 +157,9 @@ def test_the_version_is_shown(tmp_path: Path) -> None:
         (["import", "m", ""], "Argument TEXT: it is empty, which is no path."),
         (["compare", "m", ""], "Argument TEXT: it is empty, which is no path."),
         (["table", "m", "en", ""], "Argument TEXT: it is empty, which is no path."),
-        (["undo", "m", "1", "2"], "Unrecognized arguments: 2."),
+        (["undo", "m", "1", "2"], "There are too many words: 2."),
+        (["run", "m", ""], "There are too many words: ''."),
+        (["copy", "m", "n", "", "o"], "There are too many words: '' o."),
         (["export", "m", "o", "--lin", "9"], "Unrecognized arguments: --lin 9."),
         (
             ["volume", "m", "1", "yes"],

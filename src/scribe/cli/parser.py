@@ -134,7 +134,10 @@ class Parser(argparse.ArgumentParser):
                 found, over = super().parse_known_args(args, namespace)
         if over:
             # with the usage of the command
-            self.error(f"unrecognized arguments: {' '.join(over)}")
+            is_option = over[0].startswith("-")
+            what = "unrecognized arguments" if is_option else "there are too many words"
+            shown = " ".join(word or "''" for word in over)
+            self.error(f"{what}: {shown}")
         return found, over
 
     @contextmanager

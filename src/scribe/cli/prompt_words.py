@@ -97,11 +97,11 @@ def _say_refused(talk: Conversation, parser: Parser, refused: WordsRefused) -> N
 
 def _why_refused(refused: WordsRefused) -> str:
     """Why the words of a line aren't taken."""
-    _, is_over, words = refused.sentence.partition("Unrecognized arguments: ")
+    if refused.sentence.startswith("Unrecognized arguments: "):
+        return f"{refused.sentence} {_WITH_HYPHEN}"
+    _, is_over, words = refused.sentence.partition("There are too many words: ")
     if not is_over:
         return refused.sentence
-    if words.startswith("-"):
-        return f"{refused.sentence} {_WITH_HYPHEN}"
     return f"The line has too many words: “{words.removesuffix('.')}”. {_IN_MARKS}"
 
 
