@@ -141,6 +141,27 @@ def test_what_is_seen(name: str, moon: Path) -> None:
     assert scribe(command, moon, *rest, folder=moon.parent) == expected
 
 
+def test_a_struck_paragraph_is_said_to_begin_no_volume_until_it_is_restored(
+    moon: Path,
+) -> None:
+    def volume(word: str) -> list[str]:
+        done = scribe("volume", moon, "2", word, folder=moon.parent)
+        return done.shown.splitlines()
+
+    scribe("strike", moon, "2", folder=moon.parent)
+    assert volume("on") == [
+        "Paragraph 2: begins a volume now, begins no volume before.",
+        "The Tides",
+        "It is struck, and begins none until it is restored.",
+        "The book is at version 9.",
+    ]
+    assert volume("off") == [
+        "Paragraph 2: begins no volume now, begins a volume before.",
+        "The Tides",
+        "The book is at version 10.",
+    ]
+
+
 def test_a_number_that_no_request_has_is_too_large(moon: Path) -> None:
     most = 2**53
     ran = scribe("strike", moon, str(most + 1), folder=moon.parent)

@@ -98,6 +98,26 @@ def test_en_without_a_file_is_the_supplied_table(moon: Path) -> None:
     )
 
 
+def test_another_text_of_a_table_that_the_book_has_is_said_to_be_one(
+    moon: Path,
+) -> None:
+    text = (ROOT / "sample" / "plain.utb").read_bytes()
+    own = moon.with_name("own.utb")
+
+    def put(*words: str) -> str:
+        return scribe("table", moon, *words, folder=moon.parent).shown.splitlines()[0]
+
+    own.write_bytes(text)
+    for said in (" is in the book. No paragraph has it yet.",) * 2:
+        assert put("own", "own.utb") == f"Table own{said}"
+    own.write_bytes(text + b"# once more\n")
+    other = "is in the book, with another text than before"
+    assert put("own", "own.utb") == f"Table own {other}. No paragraph has it yet."
+    assert put("en", "own.utb") == f"Table en {other}. 3 paragraphs have it."
+    assert put("en") == f"Table en {other}. 3 paragraphs have it."
+    assert put("en") == "Table en is in the book. 3 paragraphs have it."
+
+
 def test_a_table_that_is_not_installed_is_refused(moon: Path) -> None:
     ran = scribe("table", moon, "klingon", folder=moon.parent)
     assert (ran.status, ran.shown) == (2, "")

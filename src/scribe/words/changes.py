@@ -4,7 +4,17 @@ from collections.abc import Callable, Iterable, Iterator
 from dataclasses import replace
 from typing import Any, TypeVar
 
-from braildesk import Kind, NoMemory, Paragraph, Refused, Session, Style, requests
+from braildesk import (
+    Failed,
+    Kind,
+    Lost,
+    NoMemory,
+    Paragraph,
+    Refused,
+    Session,
+    Style,
+    requests,
+)
 from braildesk.desk.change import Change, newly_touched
 from braildesk.desk.correction import smallest_correction
 from braildesk.desk.history import Step, histories
@@ -172,11 +182,13 @@ def _flagged(
 
 
 def _anyway(session: Session, number: int) -> list[str]:
-    """That a paragraph begins volume 1 whatever is said of it, if it does."""
-    shown = (each.id for each in session.paragraphs() if not each.struck)
-    if next(shown, None) != number:
-        return []
-    return ["It begins volume 1 in any case, as the first that isn't struck."]
+    """That a paragraph begins volume 1, or none, whatever is said of it, if it does."""
+    book = session.paragraphs()
+    shown = next((each.id for each in book if not each.struck), None)
+    if shown == number:
+        return ["It begins volume 1 in any case, as the first that isn't struck."]
+    begins = (each.begins_volume for each in book if each.id == number and each.struck)
+    return ["It is struck, and begins none until it is restored."] * any(begins)
 
 
 def _retabled(
@@ -216,12 +228,35 @@ def _moved(session: Session, command: requests.Move, width: int) -> list[str]:
 
 
 def _supplied(session: Session, command: requests.Table | requests.Supply) -> list[str]:
+    before = _text_of(session, command.table)
     done: Done = session.ask(command)
     users = sum(paragraph.table == command.table for paragraph in session.paragraphs())
+    is_other = before is not None and _text_now(session, command) not in (None, before)
+    how = ", with another text than before" if is_other else ""
     return [
-        f"Table {command.table} is in the book. {_used(users)}",
+        f"Table {command.table} is in the book{how}. {_used(users)}",
         at_version(done.version),
     ]
+
+
+def _text_of(session: Session, name: str) -> bytes | None:
+    """The text of a table, if the book has one of that name and it can be read."""
+    try:
+        tables = session.tables()
+    except Lost:
+        raise
+    except (Failed, OSError):
+        return None
+    return next((each.text for each in tables if each.name == name), None)
+
+
+def _text_now(
+    session: Session, command: requests.Table | requests.Supply
+) -> bytes | None:
+    """The text of a table that was put into the book."""
+    if isinstance(command, requests.Table):
+        return command.text
+    return _text_of(session, command.table)
 
 
 def _used(users: int) -> str:
