@@ -1076,9 +1076,8 @@ def test_a_log_that_may_be_written_by_people_who_may_not_write_the_book_is_not_t
     assert caught.value.sentence == (
         f"“{log}”, in which the newest work of “{book}” is looked for, may be written by people who"
         " may not write the book, as after a change of its permissions. They may have put something"
-        " else there. Nothing was changed. If you know that the work is yours, take it by this"
-        f" command, and open the book again: {takes}. If you don't, move “{log}” away, and go on"
-        " without it."
+        f" else there. Nothing was changed. If you don't know that the work is yours, move “{log}”"
+        f" away, and go on without it. If you do, open the book again after this command: {takes}"
     )
     looks: list[Callable[[], object]] = [
         lambda: braildesk.copy(book, tmp_path / "copy"),

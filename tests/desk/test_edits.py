@@ -176,9 +176,17 @@ def test_a_mark_that_is_not_there_is_refused_with_the_command_that_shows_them(
     moon: Path,
 ) -> None:
     assert scribe("resolve", moon.name, "2", folder=moon.parent) == refused(
-        "The book has no mark 2. Nothing was changed. scribe marks moon.braildesk shows which"
-        " there are."
+        "The book has no mark 2. Nothing was changed. This shows which there are: scribe marks"
+        " moon.braildesk"
     )
+    named = moon.with_name("the moon and all of the tides.braildesk")
+    moon.rename(named)
+    ran = scribe("resolve", named.name, "2", folder=moon.parent, COLUMNS="40")
+    assert ran.said.splitlines() == [
+        "The book has no mark 2. Nothing was",
+        "changed. This shows which there are:",
+        "scribe marks 'the moon and all of the tides.braildesk'",
+    ]
 
 
 def test_a_restored_paragraph_is_shown_with_what_it_was(moon: Path) -> None:

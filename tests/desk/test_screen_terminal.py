@@ -129,5 +129,5 @@ def test_a_dumb_terminal_is_refused_and_talk_is_named(moon: Path) -> None:
     assert at_end(child) == 2
     assert child.before == (
         "scribe edit needs a terminal on which the cursor moves, and TERM says that this one is"
-        " dumb. scribe talk moon.braildesk works here. Nothing was changed.\r\n"
+        " dumb. Nothing was changed. This works here: scribe talk moon.braildesk\r\n"
     )

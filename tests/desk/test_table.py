@@ -124,6 +124,8 @@ def test_a_table_that_is_not_installed_is_refused(moon: Path) -> None:
     assert ran.said.startswith(
         f"There is no table klingon in {ROOT / 'src' / 'braildesk' / 'tables'}."
     )
+    narrow = scribe("table", moon, "klingon", "--width", "20", folder=moon.parent)
+    assert narrow.said.splitlines()[-1] == "scribe table BOOK NAME FILE"
 
 
 def test_a_file_that_is_not_there_is_named(moon: Path) -> None:

@@ -6,6 +6,9 @@ from pathlib import Path
 
 import pytest
 
+from braildesk import Why
+from braildesk.protocol.asked import BookFile
+from braildesk.refusals import cannot_open
 from braildesk.text.wrapping import columns
 from scribe.cli import run_words
 from scribe.cli.commands import AT_PROMPT, COMMANDS
@@ -145,6 +148,30 @@ def test_a_process_takes_the_width_of_its_environment(moon: Path, width: int) ->
         "The book has no paragraph 9: it has the paragraphs 1 to 3."
     )
     assert max(map(len, lines)) <= width and (len(lines) > 1 or width == 80)
+
+
+@pytest.mark.parametrize("why", [Why.LOG_OPEN, Why.DENIED, Why.LOG_DENIED])
+def test_a_command_by_which_a_book_is_opened_again_is_not_broken(
+    tmp_path: Path, monkeypatch: pytest.MonkeyPatch, why: Why
+) -> None:
+    book, log = tmp_path / "the moon", tmp_path / "the moon-wal"
+    closed = log if why is Why.LOG_DENIED else book
+    # nobody's mode keeps root from a file
+    monkeypatch.setattr(
+        "braildesk.protocol.wording.own_closed", lambda path: str(closed)
+    )
+    console = Console(BytesIO(), StringIO(), said := StringIO(), width=20)
+    console.say(cannot_open(BookFile.of(book), why).sentence)
+    *others, last = said.getvalue().splitlines()
+    assert (
+        last
+        == {
+            Why.LOG_OPEN: f"install -m 600 -- '{log}' '{log}-own' && mv -f -- '{log}-own' '{log}'",
+            Why.DENIED: f"chmod u+rw -- '{book}'",
+            Why.LOG_DENIED: f"chmod u+rw -- '{log}'",
+        }[why]
+    )
+    assert all(columns(line) <= 20 for line in others)
 
 
 def test_what_another_program_reads_is_never_wrapped(moon: Path) -> None:

@@ -166,8 +166,8 @@ UNOPENED = MappingProxyType(
         " {path} is looked for. {nothing} {leave_of_log}",
         Why.LOG_OPEN: "{log}, in which the newest work of {path} is looked for, may be written by people"
         " who may not write the book, as after a change of its permissions. They may have put"
-        " something else there. {nothing} If you know that the work is yours, take it by this command,"
-        " and open the book again: {take_log}. If you don't, move {log} away, and go on without it.",
+        " something else there. {nothing} If you don't know that the work is yours, move {log} away, and"
+        " go on without it. If you do, open the book again after this command: {take_log}",
         Why.LOG_OPEN_TO_READ: "{log}, in which the newest work of {path} is looked for, may be written by"
         " people who may not write the book, as after a change of its permissions. They may have put"
         " something else there. {nothing} Ask somebody who may write {path} to open it.",

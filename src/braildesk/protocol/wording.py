@@ -39,17 +39,26 @@ from braildesk.text.characters import (
     named,
     shortened,
 )
+from braildesk.text.wrapping import Offered
 
 
 def worded(refusal: Refusal) -> str:
     """The sentence of a refusal."""
     fields, form = _Fields(refusal), _form(refusal)
-    return (form if fields.nothing else _alone(form)).format_map(fields)
+    return _filled(form if fields.nothing else _alone(form), fields)
 
 
 def reason(refusal: Refusal) -> str:
     """The sentence without what the refusal means for the book, which was changed before."""
-    return _alone(_form(refusal)).format_map(_Fields(refusal))
+    return _filled(_alone(_form(refusal)), _Fields(refusal))
+
+
+def _filled(form: str, fields: "_Fields") -> str:
+    """A sentence, which is ``Offered`` if it ends in a command."""
+    sentence = form.format_map(fields)
+    if fields.offered:
+        return Offered(sentence.removesuffix(fields.offered).rstrip(), fields.offered)
+    return sentence
 
 
 def _form(refusal: Refusal) -> str:
@@ -88,6 +97,8 @@ class _Fields:
     def __init__(self, refusal: Refusal) -> None:
         self._refusal = refusal
         self._asked = refusal.asked
+        #: The command with which the sentence ends, once it is filled; nothing if it doesn't.
+        self.offered = ""
 
     def __getitem__(self, name: str) -> str:
         if name in _GIVEN:
@@ -211,8 +222,8 @@ class _Fields:
         if closed is None:
             return "Ask who owns it for leave to read and write it and to write in its folder."
         if closed == real_path(named):
-            return _own_closed("The file", "read and write it", "u+rw", closed)
-        return _own_closed("Its folder", "read and write in it", "u+rwx", closed)
+            return self._own_closed("The file", "read and write it", "u+rw", closed)
+        return self._own_closed("Its folder", "read and write in it", "u+rwx", closed)
 
     @property
     def leave_of_log(self) -> str:
@@ -220,8 +231,16 @@ class _Fields:
         path = self._asked.path if isinstance(self._asked, AskedOfFile) else ""
         log = log_path(path)
         if own_closed(log) == log:
-            return _own_closed("That file", "read and write it", "u+rw", log)
+            return self._own_closed("That file", "read and write it", "u+rw", log)
         return f"Ask who owns {self.log}, or an administrator, for leave to do so."
+
+    def _own_closed(self, what: str, do: str, mode: str, path: str) -> str:
+        """That a file or a folder of one's own is kept from one by its mode, and how that is changed."""
+        from braildesk.text.shell_words import command_line  # which few refusals need
+
+        self.offered = command_line(["chmod", mode, "--", path])
+        its = f"{what} is your own, and its permissions don't let you {do}."
+        return f"{its} This lets you: {self.offered}"
 
     @property
     def log(self) -> str:
@@ -238,7 +257,8 @@ class _Fields:
         log = log_path(path)
         own = f"{log}-own"
         copied = command_line(["install", "-m", "600", "--", log, own])
-        return f"{copied} && {command_line(['mv', '-f', '--', own, log])}"
+        self.offered = f"{copied} && {command_line(['mv', '-f', '--', own, log])}"
+        return self.offered
 
     @property
     def journal(self) -> str:
@@ -423,14 +443,6 @@ class _Fields:
             return f"{sentence}."
         has = len(self._refusal.shown)
         return f"{sentence}: it has {has:,} {what}{'' if has == 1 else 's'}."
-
-
-def _own_closed(what: str, do: str, mode: str, path: str) -> str:
-    """That a file or a folder of one's own is kept from one by its mode, and how that is changed."""
-    from braildesk.text.shell_words import command_line  # which few refusals need
-
-    command = command_line(["chmod", mode, "--", path])
-    return f"{what} is your own, and its permissions don't let you {do}. This lets you: {command}"
 
 
 def _text(asked: Asked) -> str:

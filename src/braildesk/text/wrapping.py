@@ -4,6 +4,7 @@ import re
 import unicodedata
 from collections.abc import Callable
 from functools import lru_cache
+from typing import Self
 
 from braildesk.text.cells import BLANKS
 from braildesk.text.sequences import JOINING_JAMO, PLAIN, sequences
@@ -16,6 +17,18 @@ _WORD = re.compile(f"([{_BLANKS}]*)([^{_BLANKS}]+)")
 _UNSEEN = ("Mn", "Me")
 # where characters that are no part of Unicode yet will be ideographs
 _IDEOGRAPHS = (range(0xFA6E, 0xFB00), range(0x20000, 0x2FFFE), range(0x30000, 0x3FFFE))
+
+
+class Offered(str):
+    """A sentence that ends in a command, which stays in one line, as a shell has to be given it."""
+
+    #: How the sentence ends.
+    command: str
+
+    def __new__(cls, sentence: str, command: str) -> Self:
+        made = super().__new__(cls, f"{sentence} {command}")
+        made.command = command
+        return made
 
 
 def columns(text: str) -> int:

@@ -8,12 +8,12 @@ from collections.abc import Callable, Iterable, Iterator
 from contextlib import contextmanager, suppress
 from dataclasses import dataclass, replace
 from io import StringIO
-from typing import BinaryIO, Self, TextIO
+from typing import BinaryIO, TextIO
 
 from braildesk.text import limits
 from braildesk.text.cells import Notation
 from braildesk.text.characters import visible
-from braildesk.text.wrapping import columns, wrap
+from braildesk.text.wrapping import Offered, columns, wrap
 
 from scribe.words import encoding
 
@@ -27,18 +27,6 @@ USUAL_WIDTH = 80
 _INDENT = "  "
 # a line that a request may have, CR LF and one byte more
 _LINE = limits.LINE_BYTES + 3
-
-
-class Offered(str):
-    """A sentence that ends in a command, which stays in one line, as a shell has to be given it."""
-
-    #: How the sentence ends.
-    command: str
-
-    def __new__(cls, sentence: str, command: str) -> Self:
-        made = super().__new__(cls, f"{sentence} {command}")
-        made.command = command
-        return made
 
 
 class InputFailed(Exception):

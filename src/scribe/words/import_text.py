@@ -63,9 +63,10 @@ from braildesk.protocol.sentences import of_failure
 from braildesk.text import characters, limits
 from braildesk.text.characters import visible
 from braildesk.text.excerpt import excerpt
+from braildesk.text.wrapping import Offered
 from braildesk.workshop import MayNotLast
 
-from scribe.words.console import Console, Offered
+from scribe.words.console import Console
 from scribe.words.drafts import not_kept
 from scribe.words.paragraph import no_paragraph, quoted
 from scribe.words.status import (
@@ -410,10 +411,10 @@ def _made_anew(problem: Faulty) -> Iterator[str]:
     if made is None or not lacking:
         return
     manuscript = " --for MANUSCRIPT" if made.is_for_manuscript else ""
-    yield (
+    yield Offered(
         f"The table {lacking[0].table} was made from {made.name} of liblouis. With lines of your own"
-        " that give these characters cells, it is made anew by: scribe bring"
-        f" {made.name} FILE{manuscript} --add LINES"
+        " that give these characters cells, it is made anew by:",
+        f"scribe bring {made.name} FILE{manuscript} --add LINES",
     )
 
 

@@ -16,6 +16,7 @@ from braildesk.desk.ranges import BackwardRange, NoParagraph
 from braildesk.desk.places import NoPlace
 from braildesk.desk.tables import NoSuchTable, UnreadableTable
 from braildesk.desk.volume_plan import TooManyPages
+from braildesk.text.wrapping import Offered
 
 from scribe.words import export
 from scribe.words.changes import no_place
@@ -69,8 +70,8 @@ def as_stop(problem: Problem) -> Stop:
 
 
 def _no_such_table(problem: NoSuchTable) -> str:
-    return (
+    none = (
         f"There is no table {problem.name} in {problem.folder}. Nothing was changed. Without a"
-        f" file a table may be: {', '.join(problem.names)}. Another is put into a book by: scribe"
-        " table BOOK NAME FILE"
+        f" file a table may be: {', '.join(problem.names)}. Another is put into a book by:"
     )
+    return Offered(none, "scribe table BOOK NAME FILE")

@@ -7,6 +7,7 @@ from typing import Any
 from braildesk import Code, NotFound, Session, Style, requests
 from braildesk.protocol.requests import Command
 from braildesk.text.shell_words import command_line
+from braildesk.text.wrapping import Offered
 
 from scribe.cli.book_command import Answer
 from scribe.words.changes import carried_out
@@ -52,4 +53,5 @@ def _no_mark(arguments: Namespace) -> str:
         # at the prompt of talk, which has the book open
         return no_mark(arguments.mark, "Nothing was changed. The command marks")
     command = command_line(["scribe", "marks", path_word(arguments.file)])
-    return no_mark(arguments.mark, f"Nothing was changed. {command}")
+    none = f"The book has no mark {arguments.mark}. Nothing was changed."
+    return Offered(f"{none} This shows which there are:", command)

@@ -10,6 +10,7 @@ from typing import TYPE_CHECKING
 
 from braildesk import Lost
 from braildesk.text.shell_words import command_line
+from braildesk.text.wrapping import Offered
 
 from scribe.cli.own_modules import hold_modules
 from scribe.cli.page_size import add_page_size, page_size_of
@@ -56,10 +57,11 @@ def run(arguments: Namespace, console: Console) -> Status:
         )
     if os.environ.get("TERM") == "dumb":
         talk = command_line(["scribe", "talk", path_word(arguments.file)])
-        raise Stop(
+        dumb = (
             "scribe edit needs a terminal on which the cursor moves, and TERM says that this one is"
-            f" dumb. {talk} works here. Nothing was changed."
+            " dumb. Nothing was changed. This works here:"
         )
+        raise Stop(Offered(dumb, talk))
     try:
         # imported here, since only this command needs prompt_toolkit
         from scribe.screen.desk import Desk
