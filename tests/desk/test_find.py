@@ -111,6 +111,11 @@ def test_texts_that_are_alike_differ_by_something_that_is_named(
     assert [kind.name for kind in unlike(words, others)] == kinds
 
 
+def test_the_letters_i_of_turkish_are_alike_as_in_other_languages() -> None:
+    assert alike("I") == alike("i")
+    assert len({alike(letter) for letter in "iıİ"}) == 3
+
+
 def test_cells_are_found_and_the_print_that_they_stand_for(moon: Path) -> None:
     wanted = Ran(
         0,
