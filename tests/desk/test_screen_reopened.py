@@ -3,6 +3,7 @@
 import os
 import shutil
 import signal
+from dataclasses import replace
 from pathlib import Path
 
 import pytest
@@ -414,8 +415,8 @@ def test_what_was_kept_last_is_not_said_of_a_book_that_was_opened_again_after_an
         session.set_style(2, "body")
     sat.press("enter")
     assert sat.state.message == (
-        "The book is open again. It is at version 9 now; the screen said 8 last. u no longer takes"
-        " back what was done before it was opened again."
+        "The book is open again. It is at version 9 now; the screen said 8 last. Of what was done"
+        " until now, u takes back only corrections."
     )
     assert (sat.state.version, sat.state.deeds) == (9, ())
     assert "kept" not in " ".join(sat.lines)
@@ -622,17 +623,22 @@ def test_a_command_for_another_version_is_not_carried_out_and_the_book_is_shown_
     assert sat.state.kept == "kept: paragraph 1 struck"
 
 
+@pytest.mark.parametrize("is_known", [True, False])
 def test_a_change_of_another_program_between_two_keys_is_said_to_be_kept_last(
-    moon: Path, sit: Sit, monkeypatch: pytest.MonkeyPatch
+    moon: Path, sit: Sit, monkeypatch: pytest.MonkeyPatch, is_known: bool
 ) -> None:
     with monkeypatch.context() as patched:
         for name, value in standing_in(2, READ, SEND, "correct 3 0 5 A").items():
             patched.setenv(name, value)
         sat = sit(moon)
-    sat.press("s", "down", "enter", *"Oh, ", "enter")
+    sat.press("s")
+    if not is_known:
+        # as after an opening before which others had the book
+        sat.state = replace(sat.state, kept=None)
+    sat.press("down", "enter", *"Oh, ", "enter")
     assert sat.state.message == (
         "Another program changed the book, so it was opened again. It is at version 9 now; the"
-        " screen said 8 last. u no longer takes back what was done before it was opened again."
+        " screen said 8 last. Of what was done until now, u takes back only corrections."
     )
     assert sat.lines[0].endswith("last kept: another program's change")
 

@@ -321,10 +321,11 @@ def test_what_others_typed_meanwhile_is_no_import_of_this_one(
     sat.press("s", keys, *str(moon.parent / "not there" / "it"), "enter")
     sat.state = sat.desk.away(sat.state, typed)
     assert (others, sat.state.version) == ([4], 9)
-    assert sat.state.kept == "kept: paragraph 1 struck"
-    assert sat.state.pages is not None and sat.state.pages.lines[0] == (
+    assert sat.state.kept == "kept: another program's change"
+    assert sat.state.pages is not None and sat.state.pages.lines[:2] == (
         "Another program changed the book meanwhile. It is at version 9 now, and is shown as it"
-        " is."
+        " is.",
+        "Of what was done until now, u takes back only corrections.",
     )
     assert sat.state.deeds == ()
 
@@ -353,7 +354,8 @@ def test_what_others_set_during_an_import_is_not_of_this_one(
         "Another program changed the book meanwhile. It is at version 10 now, and is shown as it"
         " is."
     )
-    assert sat.state.deeds == ()
+    # the import came before that here, and may come after it
+    assert (sat.state.kept, sat.state.deeds) == (None, ())
 
 
 def test_the_rest_of_an_import_is_taken_back_with_the_heading_that_was_lacking(
@@ -551,10 +553,28 @@ def test_what_another_program_changed_after_a_session_was_lost_is_said_to_be_of_
     sat.state = sat.desk.lost(sat.state)
     assert sat.state.message == (
         "The session was ended by signal 9. The book was opened again: it is at version 9, and was"
-        " at 8 before: another program changed it meanwhile. u no longer takes back what was done"
-        " before that."
+        " at 8 before: another program changed it meanwhile. Of what was done until now, u takes"
+        " back only corrections."
     )
     assert "version 9, " in sat.lines[0]
     assert "last kept: another program's change" in sat.lines[0]
     sat.press("s")
     assert "last kept: paragraph 1 restored" in sat.lines[0]
+
+
+def test_u_takes_back_a_correction_from_before_others_changed_the_book_as_is_said(
+    moon: Path, sit: Sit
+) -> None:
+    sat = sit(moon)
+    sat.press("enter", *"Oh, ", "enter")
+    os.kill(sat.desk.pid, signal.SIGKILL)
+    with once_free(moon) as session:
+        session.set_style(2, "body")
+    sat.state = sat.desk.lost(sat.state)
+    assert sat.state.message.endswith(
+        " another program changed it meanwhile. Of what was done until now, u takes back only"
+        " corrections."
+    )
+    sat.press("u")
+    assert sat.state.message == "Taken back: the newest correction of paragraph 1."
+    assert sat.state.version == 10

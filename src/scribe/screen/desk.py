@@ -125,8 +125,7 @@ from scribe.words.status import Interrupted, Stop, in_sentences, of_system
 _OPEN_AGAIN = "The book is open again."
 # what was kept last if that isn't of this screen, and what becomes of what is
 _OF_OTHERS = "kept: another program's change"
-_LEFT = "u no longer takes back what was done before that."
-_LEFT_AT_OPENING = "u no longer takes back what was done before it was opened again."
+_LEFT = "Of what was done until now, u takes back only corrections."
 _OPEN_INSTEAD = "The file that is at the path now is open."
 _TYPE_ON = "What is typed is still here: type on."
 # the keys that leave the places of a list as they are; Enter goes to one of them
@@ -376,23 +375,7 @@ class Desk:
             return _closed(state, failed.reason, ending.lines)
         except OSError as failure:
             return _closed(state, of_system(failure), ending.lines)
-        new = len(state.book) - len(before.book)
-        if ending.count is None and new > 0:
-            # an import that was cut short
-            what = f"{counted(new, 'paragraph')} of the import"
-            state = replace(state, kept=f"kept: {what}")
-        if ending.question:
-            state = replace(state, question=ending.question)
-        of_import = ending.count, ending.lacking
-        state = with_imported(before, state, *of_import)
-        commands = state.version - before.version
-        more = deeds.changed_between(
-            before.book, state.book, state.version, commands, *of_import
-        )
-        lines = (*more, *ending.lines)
-        if lines:
-            state = replace(state, pages=Pages(ending.title, lines))
-        return self._drawn(state)
+        return self._drawn(_after_closed(before, state, ending))
 
     def keep_place(self, state: State) -> None:
         """Keeps where the book is left, so that it opens there again."""
@@ -582,7 +565,7 @@ class Desk:
             return self._after_loss(state, failed, is_sent=is_sent)
         if isinstance(failed, VersionConflict):
             said = "Another program changed the book, so it was opened again."
-            newest = _OF_OTHERS if state.kept else ""
+            newest = "" if state.kept == "" else _OF_OTHERS
             return replace(self._opened_anew(state, said, newest), failure=said)
         return state.failing(failed.sentence)
 
@@ -607,7 +590,7 @@ class Desk:
             if found.version > state.version and not state.is_displaced:
                 # it may be of this screen, or of another program
                 found = replace(found, kept=newest)
-            left = _LEFT_AT_OPENING if state.deeds and not found.deeds else ""
+            left = _LEFT if state.deeds and not found.deeds else ""
             found = found.saying(f"{said} {now} {left}".rstrip())
             found = self._offered(found, waits)
             return with_changes(self.drafts, self._session, found)
@@ -1273,6 +1256,30 @@ def _with_end(state: State, typed: Field) -> State:
     is_line = typed.purpose.is_print and typed.text.strip()
     said = _ENDED if is_line else _TYPE_ON
     return replace(state, typed=ended, ended=ended).saying_too(said)
+
+
+def _after_closed(before: State, state: State, ending: ActionResult) -> State:
+    """The state after something was done with the session closed, and what others did to the book meanwhile."""
+    new = len(state.book) - len(before.book)
+    if ending.count is None and new > 0:
+        # an import that was cut short
+        what = f"{counted(new, 'paragraph')} of the import"
+        state = replace(state, kept=f"kept: {what}")
+    if ending.question:
+        state = replace(state, question=ending.question)
+    of_import = ending.count, ending.lacking
+    state = with_imported(before, state, *of_import)
+    commands = state.version - before.version
+    more = deeds.changed_between(
+        before.book, state.book, state.version, commands, *of_import
+    )
+    if more and state.kept != "":
+        # what was imported may have been kept before that, or after it
+        is_imported = ending.kept or ending.count is None
+        state = replace(state, kept=None if is_imported else _OF_OTHERS)
+    left = (_LEFT,) if before.deeds and not state.deeds else ()
+    lines = (*more, *left, *ending.lines)
+    return replace(state, pages=Pages(ending.title, lines)) if lines else state
 
 
 def _with_report(state: State, ending: ActionResult) -> State:
