@@ -22,7 +22,7 @@ from braildesk.protocol.asked import AskedOfFile, BookFile
 from braildesk.protocol.sentences import Why, of_failure
 from braildesk.refusals import Failed, Refused, cannot_open, refused_as
 from braildesk.session import Session
-from braildesk.workshop import give_access, made_for_a_while, open_made
+from braildesk.workshop import give_access, give_list, made_for_a_while, open_made
 
 #: How long a file stays as it is before it is copied, so that a later change shows in its times.
 _TICK = 0.02
@@ -102,8 +102,9 @@ def _is_copied(book: BookFile, file: BinaryIO, copied: Path) -> bool:
     time.sleep(_TICK)
     if _state(file, log) != before:
         return False
-    # so that a copy of the copy has the mode and owner of the book
+    # so that what is made of the copy is for those whom the book is for
     with open_made(copied, copy_held(file, log, copied)) as made:
+        give_list(made.fileno(), file.fileno())
         give_access(made.fileno(), file.fileno())
     return _state(file, log) == before and is_at_path(book, file)
 

@@ -4,6 +4,7 @@ import os
 import shutil
 import signal
 import stat
+import struct
 import subprocess
 import tempfile
 import threading
@@ -28,6 +29,8 @@ from tool import scribe
 
 #: How many snapshots are taken beside a session that writes without a pause, and how many at once.
 SNAPSHOTS, AT_ONCE = 200, 16
+#: Whom an entry of a list of access is about that names nobody.
+NOBODY = 2**32 - 1
 
 
 class Writer(threading.Thread):
@@ -178,6 +181,32 @@ def test_a_book_is_copied_while_it_is_open(moon: Path) -> None:
     assert check(copied) == version
     assert stat.S_IMODE(copied.stat().st_mode) == 0o640
     assert not (moon.parent / "other-wal").exists() or check(copied) == version
+
+
+def test_what_is_made_of_a_book_that_is_open_is_for_those_on_its_list_of_access(
+    moon: Path,
+) -> None:
+    # another user may read and write, and the group nothing, also where the folder gives it more
+    def packed(of_group: int) -> bytes:
+        listed = (1, 6, NOBODY), (2, 6, 65_534), (4, of_group, NOBODY)
+        entries = *listed, (16, 6, NOBODY), (32, 0, NOBODY)
+        return b"".join(
+            [struct.pack("<I", 2), *(struct.pack("<HHI", *each) for each in entries)]
+        )
+
+    folder = moon.with_name("folder")
+    folder.mkdir()
+    try:
+        os.setxattr(moon, "system.posix_acl_access", packed(0))
+        os.setxattr(folder, "system.posix_acl_default", packed(4))
+    except OSError:
+        pytest.skip("the file system keeps no such lists")
+    with Session(moon):
+        for words in (("copy", moon, "copy"), ("proof", moon, "page.html")):
+            ran = scribe(*words, folder=folder)
+            assert (ran.status, "has" in ran.said) == (0, True)
+            made = folder / words[-1]
+            assert os.getxattr(made, "system.posix_acl_access") == packed(0)
 
 
 def test_a_pipe_at_the_path_is_no_book(tmp_path: Path) -> None:
