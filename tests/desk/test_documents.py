@@ -1101,6 +1101,22 @@ def test_a_sheet_that_a_book_lacks_is_said_once_not_to_be_read(tmp_path: Path) -
     assert lost(found, LossKind.STYLES) == ["x.css"]
 
 
+def test_a_sheet_that_a_book_lacks_and_another_imports_is_said_not_to_be_read_beside_the_rules_that_are(
+    tmp_path: Path,
+) -> None:
+    path = tmp_path / "moon.epub"
+    fonts = "https://fonts.example/css?family=Moon"
+    imports = f"@import url({fonts}); @import 'b/b.css'; @import 'x.css';"
+    sheets = {"a.css": imports + NONE, "b/b.css": "@import '../x.css';"}
+    link = "<link rel='stylesheet' href='{}'/>"
+    found = of_sheets(path, sheets, link.format("a.css") + link.format("b/b.css"))
+    assert lost(found, LossKind.STYLES) == [fonts, "../x.css"]
+    assert lost(found, LossKind.LIST) == ["One"]
+    # one to which a page leads as well is said as that names it
+    found = of_sheets(path, sheets, link.format("a.css") + link.format("x.css"))
+    assert lost(found, LossKind.STYLES) == ["x.css", fonts]
+
+
 def test_a_sheet_to_which_many_pages_link_is_read_once(
     tmp_path: Path, monkeypatch: pytest.MonkeyPatch
 ) -> None:
@@ -2373,7 +2389,7 @@ def test_sheets_for_print_to_which_a_page_alone_leads_are_said_not_to_be_read() 
     assert lost(found, LossKind.STYLES) == ["a.css", "d.css"]
     lines = report_lines(Path("a.html"), Taken((), (), found))
     assert lines[1:] == [
-        "2 style sheets that pages name aren't read: words that they may hide are typed, and emphasis by them isn't noted:",
+        "2 style sheets that pages use aren't read: words that they may hide are typed, and emphasis by them isn't noted:",
         "- “a.css”",
         "- “d.css”",
     ]

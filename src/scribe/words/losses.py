@@ -156,8 +156,8 @@ _SAID = {
         "{} lists may have other numbers in print, by style sheets that aren't read",
     ),
     LossKind.STYLES: (
-        "1 style sheet that the page names isn't read: words that it may hide are typed, and emphasis by it isn't noted",
-        "{} style sheets that pages name aren't read: words that they may hide are typed, and emphasis by them isn't noted",
+        "1 style sheet that the page uses isn't read: words that it may hide are typed, and emphasis by it isn't noted",
+        "{} style sheets that pages use aren't read: words that they may hide are typed, and emphasis by them isn't noted",
     ),
     LossKind.RULES: (
         "1 page has more rules of style than are read: words that the others may hide are typed, and emphasis by"

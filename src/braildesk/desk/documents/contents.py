@@ -188,13 +188,17 @@ class Contents:
         self.note_numbers(page.counted)
         for words in page.unsure:
             self.numbers.append(Loss(LossKind.SHEET, words, words))
-        for address in page.unread:
-            if (sheet := beside(part, address)) not in self._unread:
-                self._unread.add(sheet)
-                self.lose(LossKind.STYLES, address[:_SHOWN])
+        self.note_unread({beside(part, each): each for each in page.unread})
         if page.has_more_rules:
             first = _first(page.passages)
             self.losses.append(Loss(LossKind.RULES, first, first))
+
+    def note_unread(self, sheets: Mapping[str, str]) -> None:
+        """Notes the addresses of style sheets that weren't read, by their parts, each once."""
+        for sheet, address in sheets.items():
+            if sheet not in self._unread:
+                self._unread.add(sheet)
+                self.lose(LossKind.STYLES, address[:_SHOWN])
 
     def note_numbers(self, numbers: Iterable[str]) -> None:
         """Notes numbers that aren't typed as they are in print."""
@@ -669,6 +673,7 @@ def _of_epub(container: zipfile.ZipFile, found: Contents) -> None:
         found.note_page(read, page.part)
         if not page.is_in_order:
             found.lose(LossKind.ASIDE, _first(read.passages))
+    found.note_unread(sheets.absent)
 
 
 def _first(texts: Sequence[str]) -> str:

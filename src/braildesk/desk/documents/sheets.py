@@ -304,8 +304,10 @@ class Sheets:
         #: What the text of a part is; None of one that isn't there.
         self._text_of = text_of
         self._effort = effort
-        self._own: dict[str, tuple[tuple[str, ...], tuple[Rule, ...]]] = {}
+        self._own: dict[str, tuple[Mapping[str, str], tuple[Rule, ...]]] = {}
         self._whole: dict[str, Rules | None] = {}
+        #: The addresses of those that others import and that aren't there, by their parts.
+        self.absent: dict[str, str] = {}
 
     def linked(self, part: str, address: str) -> Rules | None:
         """The rules of the sheet to which a part links; None if it isn't there, or not all that it imports is read."""
@@ -317,8 +319,18 @@ class Sheets:
             self._whole[sheet] = Rules(rules) if is_read else None
         return self._whole[sheet]
 
-    def _add(self, sheet: str, depth: int, seen: set[str], rules: list[Rule]) -> bool:
-        """Adds the rules of a sheet after those that it imports, each sheet once; whether that is all."""
+    def _add(
+        self,
+        sheet: str,
+        depth: int,
+        seen: set[str],
+        rules: list[Rule],
+        address: str = "",
+    ) -> bool:
+        """Adds the rules of a sheet after those that it imports, each sheet once; whether that is all.
+
+        One that another imports and that isn't there, as its address says, is noted as absent.
+        """
         if sheet in seen:
             return True
         if depth > _MOST_NESTED or len(seen) == _MOST_SHEETS:
@@ -327,11 +339,17 @@ class Sheets:
         if sheet not in self._own:
             text = self._text_of(sheet)
             if text is None:
+                if depth > 1:
+                    self.absent.setdefault(sheet, address)
                 return depth > 1
-            imported = dict.fromkeys(beside(sheet, each) for each in imports_of(text))
-            self._own[sheet] = tuple(imported), rules_of(text)
+            imported: dict[str, str] = {}
+            for each in imports_of(text):
+                imported.setdefault(beside(sheet, each), each)
+            self._own[sheet] = imported, rules_of(text)
         inner, own = self._own[sheet]
-        is_whole = all(self._add(each, depth + 1, seen, rules) for each in inner)
+        is_whole = all(
+            self._add(each, depth + 1, seen, rules, its) for each, its in inner.items()
+        )
         rules += own
         return is_whole and len(rules) <= _MOST_RULES
 
