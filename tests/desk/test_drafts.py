@@ -19,6 +19,7 @@ from braildesk.desk.drafts import Begun, Drafts, NotKept, NotSaved
 from braildesk.desk.import_note import note_in
 from braildesk.desk.own_folder import MOST_BYTES
 from braildesk.desk.record import NotSuch, Record
+from braildesk.protocol.asked import seen
 from braildesk.text.spans import Span
 
 from scribe.words.drafts import Unsent, not_kept, taken_back_in_part
@@ -747,6 +748,19 @@ BEGUN = {
     "version": 7,
     "there": 3,
 }
+
+
+def test_a_text_is_kept_for_the_book_to_which_its_path_led_as_that_was_opened(
+    moon: Path,
+) -> None:
+    other = Path(shutil.copyfile(moon, moon.with_name("other.braildesk")))
+    link = moon.with_name("link")
+    link.symlink_to(moon)
+    path = seen(link)
+    link.unlink()
+    link.symlink_to(other)
+    Drafts(path).save(NOTE)
+    assert (Drafts(moon).waiting(), Drafts(other).waiting()) == (NOTE, None)
 
 
 @RANDOM

@@ -30,6 +30,7 @@ from braildesk.desk.own_folder import (
     state_folder,
 )
 from braildesk.desk.record import NotSuch, Record
+from braildesk.protocol.asked import BookFile
 from braildesk.protocol.value import Value
 
 if TYPE_CHECKING:
@@ -122,7 +123,7 @@ class Drafts:
     """What is kept for one book: texts that wait or were given up, and what is noted of imports."""
 
     def __init__(self, book: Path) -> None:
-        self.book = Path(os.path.realpath(book))
+        self.book = Path(BookFile.of(book).real)
         self._key = sha256(os.fsencode(self.book)).hexdigest()[:32]
         self._folder = OwnFolder(state_folder())
         # what is kept once the book is moved away, as with its folder, is known by this
