@@ -254,7 +254,7 @@ def test_a_link_that_another_user_puts_there_while_a_command_waits_leads_it_nowh
     status = run_words(asked, Console(data, shown, said))
     assert (status, shown.getvalue()) == (Status.REFUSED, "")
     assert said.getvalue() == (
-        f"A link was put in the place of “{book}”, or on the way to it, while that was being opened. It"
+        f"A link was put in the place of “{book}”, or on the way to it, after that was first looked at. It"
         " may be another user's, and nothing was opened through it. Nothing was changed. See"
         " where it leads, and who put it there.\n"
     )

@@ -189,9 +189,9 @@ UNOPENED = MappingProxyType(
         Why.LINKED: "The file {path} has another name too (a hard link). By each name its newest"
         " work would be looked for in another place, so it is opened by none. {nothing}"
         " Remove the other name; if one of them has a file ending in -wal beside it, keep that one.",
-        Why.LED_AWAY: "A link was put in the place of {path}, or on the way to it, while that was being"
-        " opened. It may be another user's, and nothing was opened through it. {nothing} See where it"
-        " leads, and who put it there.",
+        Why.LED_AWAY: "A link was put in the place of {path}, or on the way to it, after that was first"
+        " looked at. It may be another user's, and nothing was opened through it. {nothing} See where"
+        " it leads, and who put it there.",
         Why.OTHER_LOG: "The file {log} isn't that of {path} as it is: {path} is whole without it,"
         " and with it would be damaged or lose what it has. It may be that another file was put in"
         " the place of the book. {nothing} Keep both files; to go on with {path} as it"
