@@ -14,7 +14,13 @@ from braildesk import opening, program as programs
 from braildesk.held import copy_held, held
 from braildesk.opening import has_journal, has_work, is_log, waited
 from braildesk.program import StrPath
-from braildesk.protocol.asked import BookFile, NewBook, log_path, real_path
+from braildesk.protocol.asked import (
+    BookFile,
+    NewBook,
+    SeenPath,
+    log_path,
+    real_path,
+)
 from braildesk.protocol.requests import Command
 from braildesk.protocol.sentences import Why, of_failure
 from braildesk.refusals import (
@@ -116,7 +122,8 @@ def _new_book(
             ) from None
         why = opening.SAID_OF_DISK.get(error.errno or 0) or opening.why(asked)
         raise cannot_open(asked, why) from None
-    _carry_out(asked.path, program, holding)
+    # what is put in the place of the empty book by now isn't opened
+    _carry_out(SeenPath.of(asked.path, path), program, holding)
 
 
 def _judge_slash(named: str, kind: type[NotMade]) -> None:

@@ -1735,6 +1735,24 @@ def test_a_link_put_in_place_of_a_file_leads_a_new_book_to_no_other(
     assert (names(tmp_path), other.read_bytes()) == ({"place", "other"}, b"")
 
 
+def test_a_link_put_in_place_of_an_empty_book_has_its_table_put_into_no_other(
+    empty_book: Path, tmp_path: Path, monkeypatch: pytest.MonkeyPatch
+) -> None:
+    place = Path(shutil.copyfile(empty_book, tmp_path / "place"))
+    make_book = braildesk.program.make_book
+
+    def swapped(path: Path, program: str | None) -> None:
+        make_book(path, program)
+        place.unlink()
+        place.symlink_to(empty_book)
+
+    monkeypatch.setattr(braildesk.program, "make_book", swapped)
+    with pytest.raises(CannotOpen) as caught:
+        braildesk.new_book(place, holding=[requests.Supply("en")])
+    assert caught.value.why is Why.LED_AWAY
+    assert braildesk.check(empty_book) == 0
+
+
 def test_a_new_book_that_is_stopped_while_it_is_written_leaves_an_empty_file_empty(
     tmp_path: Path, monkeypatch: pytest.MonkeyPatch
 ) -> None:
