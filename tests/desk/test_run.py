@@ -3,12 +3,13 @@
 import random
 import shutil
 import subprocess
+import sys
 from pathlib import Path
 
 import pytest
 
 import braildesk
-from tool import Ran, scribe
+from tool import Ran, at_end, at_terminal, environment, scribe
 
 REQUESTS = """\
 type 1 en It rises  late.
@@ -288,6 +289,22 @@ def test_a_line_of_more_bytes_than_a_request_may_have_is_not_cut(moon: Path) -> 
         "Line 1: This line has over 65,536 bytes, and no request has so many. Nothing was"
         " changed.\n",
     )
+
+
+def test_a_line_that_a_terminal_may_have_cut_is_refused(moon: Path) -> None:
+    child = at_terminal(
+        *(sys.executable, "-m", "scribe", "run", moon),
+        settings=environment(),
+        folder=moon.parent,
+    )
+    child.send("table own 2\rspace \\s 0\rletter é 1\r")
+    child.expect_exact("ok 8")
+    # the first 2,041 come to scribe
+    child.send(f"type end own {'é' * 2_500}\r")
+    status = at_end(child)
+    assert "no 1\r\nLine 4: The terminal may have cut a line of this" in child.before
+    assert status == 2
+    assert braildesk.check(moon) == 8
 
 
 def test_a_session_that_is_lost_says_what_was_kept(moon: Path) -> None:

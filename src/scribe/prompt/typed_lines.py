@@ -17,11 +17,9 @@ from io import TextIOWrapper
 from types import FrameType, TracebackType
 from typing import Protocol, Self
 
-from scribe.words.console import Console
+from scribe.words.console import CUT_BYTES, Console
 from scribe.words.status import Interrupted, Stop, not_loaded
 
-# where a terminal that collects lines cuts them, by n_tty(4)
-CUT_BYTES = 4_095
 # how often, in seconds, a line is noted, and it is asked whether something came about before it is begun
 _TICK = 0.5
 _SETTINGS = (
@@ -78,7 +76,6 @@ class PipedLines:
 
     def __init__(self, console: Console) -> None:
         self._console = console
-        self._may_be_cut = console.input.isatty()
 
     def line(
         self,
@@ -88,7 +85,7 @@ class PipedLines:
     ) -> bytes | None:
         """The next line."""
         line = self._console.read_line()
-        if self._may_be_cut and len(line) >= CUT_BYTES:
+        if self._console.may_be_cut(line):
             raise Stop(
                 f"The terminal may have cut this line after {CUT_BYTES:,} bytes. Nothing was changed."
             )

@@ -25,6 +25,8 @@ OUTPUT, ERRORS = "Standard output", "Standard error"
 LEAST_WIDTH = 10
 USUAL_WIDTH = 80
 _INDENT = "  "
+#: Where a terminal that collects lines cuts them, by n_tty(4).
+CUT_BYTES = 4_095
 # a line that a request may have, CR LF and one byte more
 _LINE = limits.LINE_BYTES + 3
 
@@ -132,6 +134,10 @@ class Console:
             return line
         except OSError as cause:
             raise NoInput(cause) from cause
+
+    def may_be_cut(self, line: bytes) -> bool:
+        """Whether a line comes from a terminal that may have cut it."""
+        return len(line) >= CUT_BYTES and self.input.isatty()
 
     def show(self, *lines: str) -> None:
         """Writes lines that a person asked for."""

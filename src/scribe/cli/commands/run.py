@@ -11,7 +11,7 @@ from braildesk.text.characters import control_refused
 from scribe.cli.opened_book import open_session
 from scribe.cli.parser import Subparsers, add_file, command_parser
 from scribe.prompt.grammar import NotARequest, read_head
-from scribe.words.console import Console
+from scribe.words.console import CUT_BYTES, Console
 from scribe.words.paragraph import counted
 from scribe.words.replies import refusal_line, refusal_sentence, reply_lines
 from scribe.words.status import Status
@@ -64,9 +64,12 @@ class RequestLines:
     console: Console
     number: int = 0
     head_number: int = 0
+    #: Whether a terminal may have cut a line of the last request.
+    is_cut: bool = False
 
     def next_head(self) -> bytes | None:
         """The next head line without its ending, or None at the end."""
+        self.is_cut = False
         line = self._next()
         self.head_number = self.number
         if line is None:
@@ -87,6 +90,7 @@ class RequestLines:
     def _next(self) -> bytes | None:
         line = self.console.read_line()
         self.number += bool(line)
+        self.is_cut = self.is_cut or self.console.may_be_cut(line)
         return line or None
 
 
@@ -95,8 +99,10 @@ def answered(
 ) -> str | None:
     """Answers the request of a head line, and gives the sentence of its refusal."""
     try:
+        _judge_cut(lines)
         read = read_head(head)
         request = _whole(read, lines) if isinstance(read, TableHead) else read
+        _judge_cut(lines)
     except NotARequest as fault:
         console.pass_on("no 1")
         return f"{fault.sentence} Nothing was changed."
@@ -104,6 +110,14 @@ def answered(
     if control is not None:
         return control
     return _asked(session, request, console)
+
+
+def _judge_cut(lines: RequestLines) -> None:
+    if lines.is_cut:
+        raise NotARequest(
+            f"The terminal may have cut a line of this after {CUT_BYTES:,} bytes. Requests in a file are"
+            " taken whole."
+        )
 
 
 def _whole(head: TableHead, lines: RequestLines) -> Request[Any]:
