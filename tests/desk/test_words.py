@@ -224,6 +224,18 @@ def test_an_option_after_two_hyphens_is_no_text_to_be_put_in(book: Path) -> None
     assert scribe(*words[:3], "-", "-h", folder=book.parent).status == 0
 
 
+@pytest.mark.parametrize("option", ["--by anna", "--by=anna"])
+def test_an_option_after_two_hyphens_is_said_to_stand_there(
+    option: str, tmp_path: Path
+) -> None:
+    words = f"change m 1 -- -ing -ed {option}".split()
+    ran = scribe(*words, folder=tmp_path)
+    assert (ran.status, ran.said.splitlines()[0]) == (
+        1,
+        "--by stands after --, and isn't taken as an option there. Put it before --.",
+    )
+
+
 def test_two_hyphens_are_words_at_a_prompt(book: Path) -> None:
     with Session(book) as session:
         session.add_paragraph("end", "en", "Two men -- one.")

@@ -119,26 +119,33 @@ class Parser(argparse.ArgumentParser):
     def parse_known_args(self, args: Any = None, namespace: Any = None) -> Any:
         """Parses words, none of which is left over.
 
-        An option that can only be a text is refused where one would change nothing.
+        An option that can only be a text is refused where one would change nothing, or is left over.
         """
         words, options = list(args or ()), self._option_string_actions
         after = words[words.index("--") + 1 :] if "--" in words else []
         taken = [each for each in after if each[:2] == "--" and each in options]
         if taken and "--dry-run" in options:
-            self.refuse(
-                f"{taken[0]} stands after --, and isn't taken as an option there. Put it before --."
-            )
+            self._refuse_after(taken[0])
         found, over = super().parse_known_args(args, namespace)
         if over:
             with self._left_out_taken():
                 found, over = super().parse_known_args(args, namespace)
         if over:
+            for name in (each.partition("=")[0] for each in over if each in after):
+                if name[:2] == "--" and name in options:
+                    self._refuse_after(name)
             # with the usage of the command
             is_option = over[0].startswith("-")
             what = "unrecognized arguments" if is_option else "there are too many words"
             shown = " ".join(word or "''" for word in over)
             self.error(f"{what}: {shown}")
         return found, over
+
+    def _refuse_after(self, option: str) -> NoReturn:
+        """Refuses an option that stands where all is taken as it is typed."""
+        self.refuse(
+            f"{option} stands after --, and isn't taken as an option there. Put it before --."
+        )
 
     @contextmanager
     def _left_out_taken(self) -> Iterator[None]:
