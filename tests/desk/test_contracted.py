@@ -728,8 +728,8 @@ def test_a_text_that_is_none_is_refused(tmp_path: Path) -> None:
     (tmp_path / "text.txt").write_bytes(b"that \xff")
     ran = scribe("bring", "small.utb", "--for", "text.txt", folder=tmp_path)
     assert ran.status == 2
-    assert ran.said.startswith(
-        "text.txt isn't UTF-8: line 1, column 6 has the byte 0xff"
+    assert ran.said == (
+        "text.txt isn't UTF-8: line 1, column 6 has the byte 0xff. Save it as UTF-8.\n"
     )
 
 

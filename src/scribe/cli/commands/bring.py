@@ -221,7 +221,8 @@ def _manuscript(path: Path, console: Console) -> Manuscript:
     try:
         found = read_manuscript(path)
     except UnreadableText as cause:
-        raise Stop(f"{path} {unreadable(cause)}.") from cause
+        why = unreadable(cause).replace(", and import it again", "")
+        raise Stop(f"{path} {why}.") from cause
     except OSError as cause:
         raise Stop(f"{path} can't be read: {cause.strerror}.") from cause
     if not found.texts:
