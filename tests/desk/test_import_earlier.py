@@ -315,6 +315,15 @@ def test_the_rest_of_an_import_can_be_left_out(killed: Path) -> None:
     assert again(killed, "--continue") == Ran(2, "", f"{none} Nothing was typed.\n")
 
 
+def test_a_trial_leaves_the_rest_of_no_import_out(killed: Path) -> None:
+    found = again(killed, "--leave", "--dry-run")
+    assert (found.status, found.shown) == (1, "")
+    assert found.said.startswith(
+        "Argument --leave: not allowed with argument --dry-run.\n"
+    )
+    assert Drafts(killed).imports() == (begun(killed),)
+
+
 def test_an_import_goes_on_after_corrections_and_other_paragraphs(killed: Path) -> None:
     with Session(killed) as session:
         session.correct(3, 0, 4, "Row")

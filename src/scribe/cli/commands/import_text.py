@@ -12,6 +12,7 @@ from braildesk.desk.import_text import Import
 
 from scribe.cli.parser import (
     Subparsers,
+    WordsRefused,
     add_file,
     after,
     command_parser,
@@ -73,6 +74,7 @@ def add_parser(subparsers: Subparsers) -> ArgumentParser:
     )
     _add_choices(parser)
     _add_ways(parser)
+    parser.set_defaults(usage=parser.format_usage().strip())
     return parser
 
 
@@ -134,6 +136,11 @@ def run(arguments: Namespace, console: Console) -> Status:
     """Imports the text, or judges it, or leaves out what an earlier import of it didn't type."""
     path = arguments.text
     if arguments.way is Way.LEAVE:
+        if arguments.dry_run:
+            raise WordsRefused(
+                "Argument --leave: not allowed with argument --dry-run.",
+                arguments.usage,
+            )
         _judge_free(arguments)
         return _left_out(arguments.file, path, console)
     job = Import(
