@@ -179,6 +179,17 @@ def test_help_names_each_thing_that_can_be_typed(talk: Prompted) -> None:
     ]
 
 
+def test_help_names_commands_as_they_are_typed_there(moon: Path) -> None:
+    given = "".join(f"help {name}\n" for name in AT_PROMPT)
+    shown = scribe("talk", moon, "--width", "999", folder=moon.parent, given=given)
+    lines = shown.shown.splitlines()
+    examples = [each for each in lines if each.startswith("For example: ")]
+    assert [each.split()[2] for each in examples] == [*AT_PROMPT]
+    of_shell = {f"scribe {name}" for name in AT_PROMPT}
+    assert not [each for each in lines if any(name in each for name in of_shell)]
+    assert "It stays in the book, and restore puts it back." in lines
+
+
 def test_a_command_and_a_request_of_one_name_are_told_apart(talk: Prompted) -> None:
     assert talk.type("mark 1 moon so?")[0] == "Mark 2, open, on “moon”: so?"
     assert talk.type("request mark 1 5 4 so?")[0] == (

@@ -34,6 +34,8 @@ _OWN = {
 _USAGE = re.compile(r"usage: (\S+) ?((?:\[-[^]]*\] ?)*)(.*)")
 _IN_MARKS = "Put words with blanks between them in quotation marks, as in 'far away'."
 _WITH_HYPHEN = "A word that begins with a hyphen stands in quotation marks, as '-ing'."
+# a command as a shell takes it, which is typed without its first word here
+_OF_SHELL = re.compile(rf"\bscribe (?=(?:{'|'.join(AT_PROMPT)})(?![\w-]))")
 
 
 def names() -> list[str]:
@@ -76,11 +78,13 @@ def help_of(name: str) -> list[str] | None:
 
 def _help_of_command(name: str) -> list[str]:
     its = prompt_command(name)
-    example = its.example.splitlines()[0].removeprefix("scribe ")
+    examples = [_OF_SHELL.sub("", each) for each in its.example.splitlines()]
+    # another command may come before it
+    example = next(each for each in examples if each.startswith(f"{name} "))
     _, does = COMMANDS[name]
     lines = [_usage(its.prompt_parser()), does]
     if its.more:
-        lines.append(" ".join(its.more.split()))
+        lines.append(_OF_SHELL.sub("", " ".join(its.more.split())))
     return [*lines, f"For example: {example.replace(' moon.braildesk', '')}"]
 
 
