@@ -483,6 +483,15 @@ def test_a_table_is_put_into_the_book_from_a_file(talk: Prompted, moon: Path) ->
     ]
 
 
+def test_of_a_table_that_is_not_installed_it_is_said_how_it_is_typed_there(
+    moon: Path,
+) -> None:
+    ran = scribe("talk", moon, folder=moon.parent, given="table klingon\n")
+    said = " ".join(ran.said.split())
+    assert said.startswith("There is no table klingon in ")
+    assert said.endswith(" Another is put into a book by: table NAME FILE")
+
+
 def test_the_lines_of_a_table_are_asked_for(talk: Prompted) -> None:
     assert talk.type("request table own 2", "1 of 2: ") == [
         "Now the 2 lines of the table own. Ctrl-C",

@@ -50,7 +50,7 @@ def as_stop(problem: Problem) -> Stop:
         case TooManyPages():
             return Stop(too_long(problem))
         case NoSuchTable():
-            return Stop(_no_such_table(problem))
+            return Stop(no_such_table(problem))
         case UnreadableTable(path=path, cause=cause):
             return Stop(
                 f"The table {path} can't be read: {cause.strerror}. Nothing was changed."
@@ -69,9 +69,12 @@ def as_stop(problem: Problem) -> Stop:
     raise TypeError(f"no sentence for {problem!r}")
 
 
-def _no_such_table(problem: NoSuchTable) -> str:
+def no_such_table(
+    problem: NoSuchTable, how: str = "scribe table BOOK NAME FILE"
+) -> str:
+    """The sentence for a table that isn't installed, with how one is put into a book from a file."""
     none = (
         f"There is no table {problem.name} in {problem.folder}. Nothing was changed. Without a"
         f" file a table may be: {', '.join(problem.names)}. Another is put into a book by:"
     )
-    return Offered(none, "scribe table BOOK NAME FILE")
+    return Offered(none, how)

@@ -3,12 +3,13 @@
 from argparse import Namespace
 
 from braildesk import Session
-from braildesk.desk.tables import table_request
+from braildesk.desk.tables import NoSuchTable, table_request
 
 from scribe.cli.book_command import BookCommand
 from scribe.cli.parser import Parser, add_width, argument
 from scribe.words.changes import carried_out
 from scribe.words.console import Console
+from scribe.words.status import Stop
 from scribe.words.typed import given_path, words
 
 MORE = """\
@@ -42,7 +43,15 @@ def add_words(parser: Parser) -> None:
 
 def answer(session: Session, arguments: Namespace, console: Console) -> None:
     """Puts the table into the book, or says which line of it is wrong."""
-    request = table_request(arguments.name, arguments.text)
+    try:
+        request = table_request(arguments.name, arguments.text)
+    except NoSuchTable as missing:
+        if "wait" in arguments:
+            raise
+        # at the prompt of talk, which has the book open; what few lines need is imported for them
+        from scribe.words.problems import no_such_table
+
+        raise Stop(no_such_table(missing, "table NAME FILE")) from missing
     console.show(*carried_out(session, request, console.columns, console.cells))
 
 
