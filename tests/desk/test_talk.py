@@ -506,6 +506,19 @@ def test_the_lines_of_a_table_are_asked_for(talk: Prompted) -> None:
     ]
 
 
+def test_what_was_answered_for_a_line_that_is_refused_comes_back(
+    talk: Prompted,
+) -> None:
+    talk.type("request table own 2", "1 of 2: ")
+    talk.type("space \\s 0", "2 of 2: ")
+    talk.type("letter a 19")
+    up = "\x1b[A"
+    assert talk.type(up * 2)[0].startswith("There is no space. ")
+    talk.type("find --braille", ": ")
+    assert talk.type("sea ä")[0].startswith("Argument TEXT: U+00E4")
+    assert talk.type(up)[0].startswith("There is no sea. ")
+
+
 def test_the_only_line_of_a_table_is_asked_for(talk: Prompted) -> None:
     assert talk.type("request table own 1", "1 of 1: ") == [
         "Now the 1 line of the table own. Ctrl-C",
@@ -647,6 +660,16 @@ def test_a_lost_session_says_what_was_kept_and_what_was_not_and_talks_on(
     assert talk.type("strike 2")[-1] == "The book is at version 9."
     assert talk.end("quit\r").status == 0
     assert braildesk.check(moon) == 9
+
+
+def test_what_was_answered_for_a_line_that_may_not_be_in_the_book_comes_back(
+    talk: Prompted,
+) -> None:
+    talk.type("change 1 moon", ": ")
+    os.kill(talk.program(), signal.SIGKILL)
+    assert "change 1 moon" in talk.type("sea and the tides")
+    talk.type("change 1 moon", ": ")
+    assert "[sea and the tides]" in " ".join(talk.type("\x1b[A\x1b[A"))
 
 
 def test_a_line_that_was_not_begun_is_not_taken_for_what_was_changed_last(

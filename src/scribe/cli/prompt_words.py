@@ -133,6 +133,7 @@ def command_answered(talk: Conversation, file: Path, name: str, rest: str) -> No
             its.judge(arguments)
             outcome = its.answering()(talk.session, arguments, console)
     except WordsRefused as refused:
+        talk.bring_back()
         _say_refused(talk, parser, refused)
         return
     if isinstance(outcome, MarkOfBook):

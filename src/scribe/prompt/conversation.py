@@ -156,9 +156,11 @@ def request_line(conversation: Conversation, line: bytes) -> None:
         if isinstance(read, TableHead):
             request = read.request(_block(conversation, read))
     except NotARequest as fault:
+        conversation.bring_back()
         say(f"{fault.sentence} Nothing was changed.")
         return
     if control is not None:
+        conversation.bring_back()
         say(control)
         return
     assert isinstance(request, Request)
@@ -184,6 +186,7 @@ def _answer(conversation: Conversation, request: Request[Any]) -> None:
         else:
             lines = shown(session, request, console.cells)
     except Refused as refused:
+        conversation.bring_back()
         console.say(refusal_sentence(refused, has_line=False))
         return
     console.show(*lines)

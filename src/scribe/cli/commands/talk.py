@@ -141,6 +141,7 @@ def _talk(conversation: Conversation, file: Path) -> Lost | None:
             if conversation.may_change:
                 console.say("What was typed last may not be in the book:")
                 console.say(*map(visible, conversation.typed))
+                conversation.bring_back()
             return lost
         except DeskError as failure:
             console.say(failure.sentence)
