@@ -828,6 +828,18 @@ def test_a_short_answer_that_was_broken_off_comes_back_with_its_command(
     assert talk.end("quit\r").status == 0
 
 
+def test_answers_for_places_that_were_changed_do_not_come_back(moon: Path) -> None:
+    talk = talk_about(moon)
+    line = "change-all e a --ask"
+    talk.type(line, ": ")
+    for _ in range(3):
+        talk.type("y", ": ")
+    talk.stop_by(signal.SIGTERM)
+    talk = talk_about(moon)
+    assert talk.greeting[2:] == [line]
+    assert talk.end("quit\r").status == 0
+
+
 def wait_as_usual() -> None:
     """Has scribe end without a program that does nothing, as it does where no test has work."""
     pipe._LONG = 100

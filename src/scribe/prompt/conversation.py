@@ -68,10 +68,17 @@ class Conversation:
         self.typed.append(line.decode(errors="replace"))
         return line
 
-    def ask(self, question: str, short: str, read: Callable[[str], Value]) -> Value:
+    def ask(
+        self,
+        question: str,
+        short: str,
+        read: Callable[[str], Value],
+        is_of_line: bool = True,
+    ) -> Value:
         """The answer to a question, asked until it can be read; an empty line gives up.
 
-        So does a line that is no answer and begins as a command does.
+        So does a line that is no answer and begins as a command does. What is answered while a line is
+        carried out isn't among its words.
         """
         while True:
             line = self._answer(question, short)
@@ -79,7 +86,10 @@ class Conversation:
                 raise GivenUp
             answer = line.decode("utf-8", "surrogateescape")
             try:
-                return _read("" if answer in _EMPTY else answer, read)
+                found = _read("" if answer in _EMPTY else answer, read)
+                if not is_of_line:
+                    self.typed.pop()
+                return found
             except InvalidInput as fault:
                 self._bring_back(self.typed.pop())
                 # a short question doesn't say it

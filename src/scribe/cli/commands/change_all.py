@@ -200,7 +200,7 @@ def _asked_at_prompt(ask_person: Callable[..., Any]) -> str:
     """
     while True:
         try:
-            return str(ask_person(QUESTION, SHORT_QUESTION, answered))
+            return str(ask_person(QUESTION, SHORT_QUESTION, answered, False))
         except NoAnswer:
             # asked again, as after any other word
             continue
