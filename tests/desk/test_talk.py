@@ -812,6 +812,28 @@ def test_a_line_that_was_broken_off_comes_back_at_the_next_talk(
     assert talk.end("quit\r").status == 0
 
 
+def test_a_line_that_came_back_and_was_answered_comes_back_no_more(
+    moon: Path,
+) -> None:
+    for keys in ("mark 1 far 'how far?'", "type end en It is", "strike 2"):
+        break_off(moon, keys, signal.SIGTERM)
+    talk = talk_about(moon)
+    up = "\x1b[A"
+    talk.type(up * 3)
+    # it was typed further
+    assert talk.type(f"{up * 3} far.")[-1] == "The book is at version 9."
+    talk.shown_keys("restore 1")
+    talk.stop_by(signal.SIGTERM)
+    talk = talk_about(moon)
+    assert talk.greeting[2:] == ["strike 2", "restore 1"]
+    talk.type("strike 2")
+    # nor if scribe is killed
+    talk.stop_by(signal.SIGKILL)
+    talk = talk_about(moon)
+    assert talk.greeting[2:] == ["restore 1"]
+    assert talk.end("quit\r").status == 0
+
+
 def test_a_short_answer_that_was_broken_off_comes_back_with_its_command(
     moon: Path,
 ) -> None:

@@ -54,6 +54,19 @@ class BrokenOff(AbstractContextManager["BrokenOff"]):
             others = (each for each in self._before if each not in new)
             self._keep((*others, *new))
 
+    def answered(self) -> None:
+        """Keeps a line no more that is among those just answered, or was typed on to one of them."""
+        typed = tuple(self._conversation.typed)
+        self._conversation.typed.clear()
+        left = tuple(
+            each
+            for each in self._before
+            if not any(line.startswith(each) for line in typed)
+        )
+        if left != self._before:
+            self._before = left
+            self._keep(left)
+
     def forget(self) -> None:
         """Keeps no line any more: the conversation came to its end."""
         if self._before:

@@ -86,7 +86,7 @@ def run(arguments: Namespace, console: Console) -> Status:
             f" {'paragraph' if count == 1 else 'paragraphs'}. Type help, or quit to end."
         )
         broken_off = opened.enter_context(BrokenOff(conversation, arguments.file))
-        while (lost := _talk(conversation, arguments.file)) is not None:
+        while (lost := _talk(conversation, arguments.file, broken_off)) is not None:
             again, said = opened_again(arguments.file, lost, conversation.shown)
             console.say(*said)
             if again is None:
@@ -110,7 +110,7 @@ def _lines(console: Console) -> AbstractContextManager[Lines]:
     return TypedLines()
 
 
-def _talk(conversation: Conversation, file: Path) -> Lost | None:
+def _talk(conversation: Conversation, file: Path, broken_off: BrokenOff) -> Lost | None:
     """Answers line after line to the end, or until the session is lost."""
     console = conversation.console
     while True:
@@ -123,6 +123,8 @@ def _talk(conversation: Conversation, file: Path) -> Lost | None:
             conversation.shown = conversation.session.last_version
             with in_sentences(lambda: conversation.may_change):
                 _answer(conversation, file, line)
+            conversation.may_change = False
+            broken_off.answered()
             if conversation.session.last_version != conversation.shown:
                 conversation.remind()
         except GivenUp:
