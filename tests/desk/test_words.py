@@ -369,6 +369,12 @@ def test_a_program_that_is_not_there_is_said(moon: Path) -> None:
             ("strike", "moon.braildesk", "1"),
             " What was changed in a book before that is kept.",
         ),
+        (("proof", "moon.braildesk", "moon.html"), "\nmoon.html is written."),
+        (
+            ("copy", "moon.braildesk", "other"),
+            " What was changed in a book before that is kept.\nother is a copy of moon.braildesk, at"
+            " version 7.",
+        ),
     ],
 )
 def test_a_full_output_is_said_and_ends_with_3(

@@ -11,7 +11,7 @@ from braildesk.protocol.asked import BookFile
 from braildesk.snapshot import snapshot
 
 from scribe.cli.parser import Subparsers, add_file, command_parser, file_path
-from scribe.words.console import Console
+from scribe.words.console import Console, OutputFailed
 from scribe.words.status import Status, Stop
 
 MORE = """\
@@ -46,7 +46,14 @@ def run(arguments: Namespace, console: Console) -> Status:
         version, is_open = _copied(arguments)
     except FileIsThere as taken:
         raise Stop(f"{taken.sentence} --overwrite replaces a book.") from taken
-    console.show(f"{to} is a copy of {arguments.file}, at version {version:,}.")
+    said = f"{to} is a copy of {arguments.file}, at version {version:,}."
+    try:
+        console.show(said)
+        console.flush()
+    except OutputFailed as failed:
+        # the copy is there all the same
+        failed.add_note(said)
+        raise
     if is_open:
         console.say(f"Another program has {arguments.file} open, and goes on with it.")
     return Status.DONE

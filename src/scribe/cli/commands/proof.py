@@ -18,7 +18,7 @@ from braildesk.workshop import MayNotLast
 from scribe.cli.opened_book import looked_at
 from scribe.cli.page_size import add_page_size, page_size_of
 from scribe.cli.parser import Subparsers, add_file, command_parser, file_path
-from scribe.words.console import Console
+from scribe.words.console import Console, OutputFailed
 from scribe.words.pages import not_exported
 from scribe.words.proof_html import Proof, elsewhere, is_proof
 from scribe.words.status import Status, Stop, left_there, may_not_last, status_of
@@ -109,10 +109,14 @@ def _written(
         said = f"{arguments.proof} could not be written: {of_failure(error)}."
         raise Stop(said, status_of(error)) from error
     count = "1 page" if len(pages) == 1 else f"{len(pages):,} pages"
-    console.show(f"{arguments.proof}: {count}.")
-    console.say(
-        *others, *not_exported((page.volume, page.eight_dots) for page in found)
-    )
+    others += not_exported((page.volume, page.eight_dots) for page in found)
+    try:
+        console.show(f"{arguments.proof}: {count}.")
+        console.say(*others)
+    except OutputFailed as failed:
+        # the file is written all the same
+        failed.add_note(f"{arguments.proof} is written.")
+        raise
     return Status.DONE
 
 
