@@ -850,6 +850,18 @@ def test_a_short_answer_that_was_broken_off_comes_back_with_its_command(
     assert talk.end("quit\r").status == 0
 
 
+def test_all_lines_of_a_table_that_was_broken_off_come_back(moon: Path) -> None:
+    talk = talk_about(moon)
+    talk.type("request table own 20", "1 of 20: ")
+    lines = [f"# line {number}" for number in range(1, 13)]
+    for number, line in enumerate(lines, 2):
+        talk.type(line, f"{number} of 20: ")
+    talk.stop_by(signal.SIGTERM)
+    talk = talk_about(moon)
+    assert talk.greeting[2:] == ["request table own 20", *lines]
+    assert talk.end("quit\r").status == 0
+
+
 def test_answers_for_places_that_were_changed_do_not_come_back(moon: Path) -> None:
     talk = talk_about(moon)
     line = "change-all e a --ask"

@@ -44,7 +44,7 @@ except ImportError:
 
 #: How many texts that were given up are kept for a book.
 MOST_GIVEN_UP = 10
-#: How many lines that were broken off are kept for a book.
+#: How many lines that were broken off are kept for a book beside those that were broken off last.
 MOST_LINES = 10
 _Kept = TypeVar("_Kept")
 
@@ -330,10 +330,9 @@ class Drafts:
             return ()
 
     def keep_lines(self, lines: Sequence[str]) -> None:
-        """Keeps the last of such lines, in place of those that were; nothing is kept of none."""
+        """Keeps such lines, in place of those that were; nothing is kept of none."""
         if lines:
-            kept = "\n".join(lines[-MOST_LINES:])
-            self._write(Begun.LINES, {"lines": written(kept)})
+            self._write(Begun.LINES, {"lines": written("\n".join(lines))})
         else:
             self._remove(Begun.LINES)
 

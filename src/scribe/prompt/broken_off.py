@@ -4,7 +4,7 @@ from contextlib import AbstractContextManager, suppress
 from pathlib import Path
 from types import TracebackType
 
-from braildesk.desk.drafts import Drafts, NotKept
+from braildesk.desk.drafts import MOST_LINES, Drafts, NotKept
 
 from scribe.prompt.conversation import FEW, Conversation
 from scribe.prompt.typed_lines import TypedLines
@@ -51,8 +51,8 @@ class BrokenOff(AbstractContextManager["BrokenOff"]):
         new = [each for each in typed if each.strip()]
         # a short answer is lacking to the command before it; a short line alone is typed anew
         if len(new) > 1 or any(len(each.strip()) > FEW for each in new):
-            others = (each for each in self._before if each not in new)
-            self._keep((*others, *new))
+            others = [each for each in self._before if each not in new]
+            self._keep((*others[-MOST_LINES:], *new))
 
     def answered(self) -> None:
         """Keeps a line no more that is among those just answered, or was typed on to one of them."""
