@@ -165,6 +165,45 @@ def test_a_book_without_volumes_writes_none(book: Path) -> None:
     )
 
 
+@pytest.mark.parametrize("is_there", [False, True])
+def test_a_folder_that_an_export_made_goes_again_where_nothing_was_written_there(
+    moon: Path, is_there: bool
+) -> None:
+    with Session(moon) as session:
+        session.put_table("dots", b"space \\s 0\nletter a 7\n")
+        session.add_paragraph("front", "dots", "a a")
+    out = moon.with_name("out")
+    if is_there:
+        out.mkdir()
+    ran = scribe("export", moon, "out", folder=moon.parent)
+    assert (ran.status, ran.shown) == (2, "")
+    assert ran.said == (
+        "Volume 1: Cell 1 of paragraph 4 has dot 7 or 8, which pages for embossers can't"
+        " have. Correct the table of that paragraph."
+        " out/moon-1.brf was not made.\n"
+    )
+    assert out.exists() is is_there
+
+
+def test_a_folder_that_an_export_made_goes_again_where_its_disk_took_no_pages(
+    moon: Path,
+) -> None:
+    def hold_no_more_than_a_hundred_bytes() -> None:
+        resource.setrlimit(resource.RLIMIT_FSIZE, (100, 100))
+
+    for words in ((), ("--page", "1")):
+        ran = scribe(
+            "export",
+            moon,
+            "out",
+            *words,
+            folder=moon.parent,
+            before=hold_no_more_than_a_hundred_bytes,
+        )
+        assert (ran.status, "File too large" in ran.said) == (3, True)
+        assert not moon.with_name("out").exists()
+
+
 @pytest.mark.parametrize("width", ["9", "61", "x", "-1"])
 def test_a_width_that_no_page_has_is_refused(width: str, moon: Path) -> None:
     ran = scribe("export", moon, "out", f"--width={width}", folder=moon.parent)

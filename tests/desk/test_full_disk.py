@@ -199,8 +199,7 @@ def test_a_file_that_finds_no_room_is_said_not_to_be_made_and_is_not(
     found = on_full[name]
     assert (found.status, found.shown) == (3, "")
     assert found.said.startswith(MAKING[name])
-    left = {"export": ["pages"]}.get(name, [])
-    assert found.files == left
+    assert found.files == []
 
 
 #: Commands that open no book, and those that look at a copy of it.

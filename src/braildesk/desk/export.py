@@ -3,6 +3,7 @@
 import os
 import re
 from collections.abc import Callable, Iterable, Iterator, Sequence
+from contextlib import contextmanager, suppress
 from dataclasses import dataclass
 from pathlib import Path
 from typing import TypeVar
@@ -76,9 +77,11 @@ class Job:
     def _named(self, ending: str) -> Iterator[tuple[int, Path]]:
         """What has the name of a volume with such an ending, and the number of that."""
         form = re.compile(re.escape(self.name) + rf"-([1-9][0-9]{{0,4}}){ending}\.brf")
-        for path in self.folder.iterdir():
-            if match := form.fullmatch(path.name):
-                yield int(match[1]), path
+        # where no volume was written the folder may not be there
+        with suppress(FileNotFoundError):
+            for path in self.folder.iterdir():
+                if match := form.fullmatch(path.name):
+                    yield int(match[1]), path
 
 
 def _is_file(path: Path) -> bool:
@@ -234,17 +237,17 @@ class Export:
         Raises `BookChanges`, `NoFolder` and `NotWritten`, and what the client raises of the book.
         """
         self._volumes, self._access = _with_access(self.job, self._of_one_version)
-        self.make_folder()
-        for volume, pages in enumerate(self._volumes, 1):
-            self._check()
-            file = self.job.file(volume)
-            if isinstance(pages, Refused):
-                yield LeftOut(volume, file, pages, os.path.lexists(file))
-                continue
-            differences, changed = self._compared(volume, pages)
-            self.write(volume, file, pages, self._access, changed)
-            self._written.append(volume)
-            yield Written(volume, file, *_size(pages), differences, changed)
+        with self.made_folder():
+            for volume, pages in enumerate(self._volumes, 1):
+                self._check()
+                file = self.job.file(volume)
+                if isinstance(pages, Refused):
+                    yield LeftOut(volume, file, pages, os.path.lexists(file))
+                    continue
+                differences, changed = self._compared(volume, pages)
+                self.write(volume, file, pages, self._access, changed)
+                self._written.append(volume)
+                yield Written(volume, file, *_size(pages), differences, changed)
 
     def so_far(self) -> Files | None:
         """What the files have if this was ended; none if no volume was to be written yet."""
@@ -295,10 +298,26 @@ class Export:
                 yield refused
             volume += 1
 
-    def make_folder(self) -> None:
-        """Makes the folder of the files; raises `NoFolder`."""
+    @contextmanager
+    def made_folder(self) -> Iterator[None]:
+        """Makes the folder of the files, which goes again if none was written; raises `NoFolder`."""
+        is_new = self.make_folder()
         try:
+            yield
+        finally:
+            if is_new:
+                # a folder with anything in it isn't removed by that
+                with suppress(OSError):
+                    self.job.folder.rmdir()
+
+    def make_folder(self) -> bool:
+        """Makes the folder of the files, and says whether it wasn't there; raises `NoFolder`."""
+        try:
+            with suppress(FileExistsError):
+                self.job.folder.mkdir()
+                return True
             self.job.folder.mkdir(exist_ok=True)
+            return False
         except (OSError, ValueError) as cause:
             raise NoFolder(self.job.folder, cause) from cause
 
@@ -359,8 +378,8 @@ def export_pages(
     name = ",".join(each.name for each in wanted)
     file = job.folder / f"{job.name}-{number}-pages-{name}.brf"
     made = Export(job)
-    made.make_folder()
-    made.write(number, file, found, access)
+    with made.made_folder():
+        made.write(number, file, found, access)
     return WrittenPages(number, file, len(_parted(found)))
 
 
