@@ -412,7 +412,8 @@ def test_an_export_opens_no_pipe_of_a_volumes_name(moon: Path) -> None:
 
 
 @pytest.mark.parametrize(
-    "book, umask, wanted", [(0o600, 0o022, 0o600), (0o660, 0o002, 0o660)]
+    "book, umask, wanted",
+    [(0o600, 0o022, 0o600), (0o660, 0o002, 0o660), (0o444, 0o022, 0o644)],
 )
 def test_an_exported_volume_is_for_those_whom_the_book_is_for(
     book: int, umask: int, wanted: int, moon: Path

@@ -32,7 +32,7 @@ from braildesk.workshop import (
     sync_names,
 )
 
-ANYONE = 0o666
+ANYONE, _OWN = 0o666, 0o600
 _OF_THE_SYSTEM = ("/dev/", "/proc/")
 # neither through a link nor waiting for a pipe that was put there
 _READ = os.O_RDONLY | os.O_NOFOLLOW | os.O_NONBLOCK | os.O_CLOEXEC
@@ -74,10 +74,13 @@ class Access(Value):
 
     @classmethod
     def of(cls, file: int | Path) -> "Access":
-        """That of a file from which another one is made: an open one, where others may replace it."""
+        """That of a file from which another one is made: an open one, where others may replace it.
+
+        Who makes a file may write it too.
+        """
         found = os.stat(file)
         listed = found.st_mode & ANYONE & stat.S_IRWXG
-        return cls(mode_of(file, found) & ANYONE, found.st_gid, listed)
+        return cls(mode_of(file, found) & ANYONE | _OWN, found.st_gid, listed)
 
 
 @dataclass(frozen=True, eq=False, repr=False)
@@ -273,7 +276,7 @@ def _write(
 ) -> os.stat_result:
     """Makes a file with these bytes, on the disk, and says what it is."""
     flags = os.O_WRONLY | os.O_CREAT | os.O_EXCL | os.O_NOFOLLOW | os.O_CLOEXEC
-    created = access.mode if kept is None else 0o600
+    created = access.mode if kept is None else _OWN
     if kept is None and gives_lists(folder):
         created |= access.listed
     with open(os.open(name, flags, created, dir_fd=folder), "wb") as file:
