@@ -33,14 +33,14 @@ _NO_LINKS = (errno.EPERM, *_NOT_KNOWN, errno.EIO)
 _CHUNK = 1 << 20
 #: Where a file system has the list of who may do what with a file, the bytes before its entries, an
 #: entry (whom it is about, what that one may do, and a number), and what says that it is about the
-#: owner of the file, a user, or the group of the file.
+#: owner of the file, a user, the group of the file, or another group.
 _ACL, _ACL_BEGIN, _ACL_ENTRY = (
     "system.posix_acl_access",
     b"\2\0\0\0",
     struct.Struct("<HHI"),
 )
 _ACL_FRONT = len(_ACL_BEGIN)
-_OF_OWNER, _OF_USER, _OF_GROUP = 0x01, 0x02, 0x04
+_OF_OWNER, _OF_USER, _OF_GROUP, _OF_OTHER_GROUP = 0x01, 0x02, 0x04, 0x08
 #: An entry: whom it is about, what that one may do, and a number.
 Listed = tuple[int, int, int]
 #: How many names and links a path is followed by at most.
@@ -253,10 +253,13 @@ def give_access(file: int, like: int) -> None:
 
     A group that isn't that of the other file gets no more than anybody. If the folder has given the
     file a list of who may do what with it (ACL), those on that list may do as much with it as with
-    the other file.
+    the other file. Nobody may do more with it whom the list of the other file names.
     """
     found = os.fstat(like)
-    mode = mode_of(like, found)
+    mode, listed = mode_of(like, found), found.st_mode & stat.S_IRWXG
+    if not _named(like) <= _named(file):
+        mode &= limit_of(like, found, found.st_gid)
+        listed &= limit_of(like, found)
     try:
         os.fchown(file, -1, found.st_gid)
     except OSError:
@@ -265,8 +268,44 @@ def give_access(file: int, like: int) -> None:
         os.fchown(file, found.st_uid, -1)
     with suppress(OSError):
         if limit_group(file, mode):
-            mode |= found.st_mode & stat.S_IRWXG
+            # what all those may do at most who are on the list that the file has
+            mode = mode & ~stat.S_IRWXG | listed
         os.fchmod(file, mode)
+
+
+def limit_of(like: int | Path, found: os.stat_result, group: int | None = None) -> int:
+    """What group and others may do at most with a file that is made from another one without its list.
+
+    So nobody may do more with it whom that list of access names, as it may refuse somebody whom the
+    group may be. Who is in the group isn't known unless it is said which it is.
+    """
+    limit = 0o777
+    for tag, may, whom in _named(like):
+        kept = may & found.st_mode >> 3
+        if (tag, whom) == (_OF_USER, os.geteuid()):
+            continue
+        limit &= ~stat.S_IRWXO | kept
+        if group is None or tag == _OF_USER and group in (groups_of(whom) or [group]):
+            limit &= ~stat.S_IRWXG | kept << 3
+    return limit
+
+
+def _named(file: int | Path) -> set[Listed]:
+    """The entries of the list of access of a file about users and groups that are named there."""
+    return {
+        each for each in access_list(file) if each[0] in (_OF_USER, _OF_OTHER_GROUP)
+    }
+
+
+def groups_of(number: int) -> list[int] | None:
+    """The groups in which a user is; none if the system doesn't know the user."""
+    import pwd  # which few openings need
+
+    try:
+        user = pwd.getpwuid(number)
+        return os.getgrouplist(user.pw_name, user.pw_gid)
+    except (KeyError, OSError):
+        return None
 
 
 def give_list(file: int, like: int) -> None:

@@ -3,7 +3,7 @@
 import os
 from typing import BinaryIO
 
-from braildesk.workshop import access_list
+from braildesk.workshop import access_list, groups_of
 
 #: Whom an entry of a list is about: a user, the group of the file, another group, or all who aren't
 #: named; and what users and groups that are named may do at most.
@@ -24,10 +24,12 @@ def has_more_readers(file: BinaryIO, other: BinaryIO) -> bool:
 
 
 def _has_more(file: BinaryIO, other: BinaryIO, leave: int) -> bool:
-    known = _users(other, leave)
-    if _ANYBODY in known:
-        return False
-    return not all(_is_one_of(known, each) for each in _users(file, leave))
+    known, users = _users(other, leave), _users(file, leave)
+    if _ANYBODY not in known and not all(_is_one_of(known, each) for each in users):
+        return True
+    # whom the list of the other one refuses may be anybody here, or in a group
+    refused = _refused(other, leave) - _refused(file, leave)
+    return any(_is_let(users, known, each) for each in refused)
 
 
 def _users(file: BinaryIO, leave: int) -> frozenset[_User]:
@@ -47,6 +49,27 @@ def _users(file: BinaryIO, leave: int) -> frozenset[_User]:
     return frozenset(users)
 
 
+def _refused(file: BinaryIO, leave: int) -> frozenset[_User]:
+    """The users and groups that a list of access names and gives no leave, but for those who have it anyway."""
+    most = os.fstat(file.fileno()).st_mode >> 3
+    anyway = {(_USER, os.fstat(file.fileno()).st_uid), (_USER, os.geteuid())}
+    listed = access_list(file.fileno())
+    named = [each for each in listed if each[0] in (_USER, _GROUP)]
+    found = {(tag, whom) for tag, may, whom in named if not may & most & leave}
+    return frozenset(found - anyway)
+
+
+def _is_let(users: frozenset[_User], known: frozenset[_User], who: _User) -> bool:
+    """Whether somebody is among those who may use a file, but for those who may use the other one anyway."""
+    kind, number = who
+    if _ANYBODY in users or who in users:
+        return True
+    if kind == _GROUP:
+        # who is in both groups may use what one of them may
+        return any(each[0] == _GROUP for each in users - known)
+    return any((_GROUP, group) in users for group in groups_of(number) or [])
+
+
 def _is_one_of(known: frozenset[_User], who: _User) -> bool:
     """Whether somebody is among those who may use a file, as this user and root are."""
     kind, number = who
@@ -54,12 +77,5 @@ def _is_one_of(known: frozenset[_User], who: _User) -> bool:
         return who in known
     if number in (0, os.geteuid()):
         return True
-    import pwd  # which few openings need
-
-    try:
-        user = pwd.getpwuid(number)
-        groups = os.getgrouplist(user.pw_name, user.pw_gid)
-    except (KeyError, OSError):
-        # a user whom the system doesn't know is in no group
-        return False
-    return any((_GROUP, group) in known for group in groups)
+    # a user whom the system doesn't know is in no group
+    return any((_GROUP, group) in known for group in groups_of(number) or [])

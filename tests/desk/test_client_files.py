@@ -1340,6 +1340,75 @@ def test_what_is_made_of_a_book_with_a_list_of_access_gives_its_group_no_more(
     assert Access.of(book).mode == 0o600
 
 
+@NEEDS_ROOT
+@pytest.mark.parametrize("is_listed", [False, True])
+@pytest.mark.parametrize("refused", [(2, 0, STRANGER - 2), (8, 0, STRANGER - 2)])
+def test_whom_the_list_of_a_book_refuses_by_name_reads_nothing_that_is_made_of_it(
+    book: Path, tmp_path: Path, refused: tuple[int, int, int], is_listed: bool
+) -> None:
+    def packed(*listed: tuple[int, int, int]) -> bytes:
+        entries = [struct.pack("<HHI", *each) for each in listed]
+        return b"".join([struct.pack("<I", 2), *entries])
+
+    who, others = STRANGER - 2, ((4, 6, NOBODY), (16, 6, NOBODY), (32, 4, NOBODY))
+    named = sorted([refused, *others])
+    folder, setgid = tmp_path / "folder", tmp_path / "setgid"
+    folder.mkdir()
+    setgid.mkdir()
+    os.chown(setgid, -1, who)
+    setgid.chmod(0o2755)
+    log = Path(f"{book}-wal")
+    book.chmod(0o664)
+    log.touch()
+    log.chmod(0o664)
+    try:
+        os.setxattr(book, "system.posix_acl_access", packed((1, 6, NOBODY), *named))
+        if is_listed:
+            # a folder gives what is made in it to all whom it names
+            given = packed(
+                (1, 6, NOBODY),
+                (2, 6, who),
+                (4, 6, NOBODY),
+                (16, 6, NOBODY),
+                (32, 4, NOBODY),
+            )
+            os.setxattr(folder, "system.posix_acl_default", given)
+    except OSError:
+        pytest.skip("the file system keeps no such lists")
+    lead_to(tmp_path)
+    assert as_stranger(lambda: book.open("rb").close(), who) == "PermissionError"
+    assert as_stranger(lambda: book.open("rb").close(), who - 1) == ""
+    braildesk.copy(book, folder / "copy")
+    write_whole(folder / "pages", b"pages", Access.of(book))
+    write_whole(setgid / "pages", b"pages", Access.of(book))
+    fit_log(BookFile(str(book)))
+    for made in (log, folder / "copy", folder / "pages", setgid / "pages"):
+        assert as_stranger(lambda: made.open("rb").close(), who) == "PermissionError"
+    # who may use the book by its list may use the log
+    assert as_stranger(lambda: log.open("rb").close(), who - 1) == ""
+
+
+@NEEDS_ROOT
+def test_a_copy_stays_for_the_group_of_the_book_in_which_nobody_is_whom_its_list_limits(
+    book: Path, tmp_path: Path
+) -> None:
+    # another user may only read the book, and isn't in its group
+    listed = (1, 6, NOBODY), (2, 4, STRANGER), (4, 6, NOBODY), (16, 6, NOBODY)
+    entries = [struct.pack("<HHI", *each) for each in (*listed, (32, 0, NOBODY))]
+    groups = {0: 0o660, STRANGER: 0o640}
+    for group, wanted in groups.items():
+        os.chown(book, -1, group)
+        try:
+            names = b"".join([struct.pack("<I", 2), *entries])
+            os.setxattr(book, "system.posix_acl_access", names)
+        except OSError:
+            pytest.skip("the file system keeps no such lists")
+        copied = tmp_path / f"copy-{group}"
+        braildesk.copy(book, copied)
+        assert stat.S_IMODE(copied.stat().st_mode) == wanted
+        assert Access.of(book).mode == wanted
+
+
 def test_those_to_whom_a_folder_gives_access_by_a_list_have_it_to_what_is_made_there(
     book: Path, tmp_path: Path
 ) -> None:

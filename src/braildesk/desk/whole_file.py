@@ -27,6 +27,7 @@ from braildesk.workshop import (
     gives_lists,
     is_same,
     limit_group,
+    limit_of,
     mode_of,
     set_list,
     sync_names,
@@ -71,16 +72,19 @@ class Access(Value):
     group: int | None = None
     #: What those may do at most to whom the folder gives access by a list (ACL).
     listed: int = 0
+    #: What any other group may do at most, and others.
+    most: int = ANYONE
 
     @classmethod
     def of(cls, file: int | Path) -> "Access":
         """That of a file from which another one is made: an open one, where others may replace it.
 
-        Who makes a file may write it too.
+        Who makes a file may write it too. Nobody may do more with it whom the list of access names.
         """
         found = os.stat(file)
-        listed = found.st_mode & ANYONE & stat.S_IRWXG
-        return cls(mode_of(file, found) & ANYONE | _OWN, found.st_gid, listed)
+        most = limit_of(file, found) & ANYONE
+        mode = mode_of(file, found) & limit_of(file, found, found.st_gid) & ANYONE
+        return cls(mode | _OWN, found.st_gid, found.st_mode & most & stat.S_IRWXG, most)
 
 
 @dataclass(frozen=True, eq=False, repr=False)
@@ -276,9 +280,7 @@ def _write(
 ) -> os.stat_result:
     """Makes a file with these bytes, on the disk, and says what it is."""
     flags = os.O_WRONLY | os.O_CREAT | os.O_EXCL | os.O_NOFOLLOW | os.O_CLOEXEC
-    created = access.mode if kept is None else _OWN
-    if kept is None and gives_lists(folder):
-        created |= access.listed
+    created = _OWN if kept is not None else _created(folder, access)
     with open(os.open(name, flags, created, dir_fd=folder), "wb") as file:
         if kept is not None:
             _keep(file.fileno(), kept)
@@ -290,6 +292,14 @@ def _write(
         file.flush()
         os.fsync(file.fileno())
         return os.fstat(file.fileno())
+
+
+def _created(folder: int, access: Access) -> int:
+    """The mode with which a file is made in a folder, as far as the umask allows."""
+    if gives_lists(folder):
+        return access.mode & access.most | access.listed
+    is_others = _group_chosen(folder) not in (None, access.group)
+    return access.mode & access.most if is_others else access.mode
 
 
 def _keep(file: int, kept: Kept) -> None:
@@ -306,14 +316,19 @@ def _keep(file: int, kept: Kept) -> None:
         os.fchmod(file, mode & limited)
 
 
+def _group_chosen(folder: int) -> int | None:
+    """The group that a folder gives to the files that are made in it, if it does so."""
+    found = os.fstat(folder)
+    return found.st_gid if found.st_mode & stat.S_ISGID else None
+
+
 def _take_group(file: int, folder: int, mode: int, group: int) -> None:
     """Gives a new file a group, or else lets its own group do no more than others by the mode.
 
     The group of a folder that gives it to its files is kept: it was chosen for them.
     """
     made = os.fstat(file)
-    is_chosen = os.fstat(folder).st_mode & stat.S_ISGID
-    if is_chosen or made.st_gid == group:
+    if _group_chosen(folder) is not None or made.st_gid == group:
         return
     try:
         os.fchown(file, -1, group)
