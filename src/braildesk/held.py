@@ -21,15 +21,19 @@ from braildesk.opening import (
 )
 from braildesk.protocol.asked import BookFile, log_path
 from braildesk.protocol.sentences import Why
-from braildesk.refusals import CannotOpen, Refused, cannot_open
+from braildesk.refusals import CannotOpen, Failed, Refused, cannot_open
 from braildesk.text import limits
 from braildesk.workshop import (
+    MayNotLast,
+    Place,
     access_list,
     copy_bytes,
     create,
     give_access,
     give_list,
+    made_beside,
     place_of,
+    put_in_place,
 )
 from braildesk.writers import has_more_readers, has_more_writers
 
@@ -82,11 +86,12 @@ def open_file(book: BookFile, flags: int = os.O_RDONLY) -> BinaryIO:
 
 
 def fit_log(book: BookFile) -> None:
-    """Sees to it that a log lies beside a book, and that nobody may write it who may not write the book.
+    """Sees to it that a log lies beside a book, and that nobody may use it who may not use the book.
 
-    What stands there is taken into the book. ``CannotOpen`` where such a log has work, of which nobody
-    knows whose it is, or can't be removed. One of one's own gets the mode that the book has by now,
-    and one without work is made anew where more may read it.
+    What stands there is taken into the book. ``CannotOpen`` where people may have written the work in
+    such a log, of which nobody knows whose it is, or where it can't be made anew. One of one's own
+    gets the mode that the book has by now, and one that more may use is made anew, with the work that
+    it has.
     """
     path, name = Path(book.real), Path(book.log).name
     if not os.access(path, os.W_OK):
@@ -95,25 +100,64 @@ def fit_log(book: BookFile) -> None:
         # both lie in one folder, whatever is put in its place meanwhile
         folder = place.folder
         with alone(folder, path.name) as file:
-            _remove_unfit(book, folder, name, file)
+            _renew_unfit(book, place.beside("-wal"), file)
             _begin_log(folder, name, file)
             with alone(folder, name) as log:
                 if has_more_writers(log, file):
                     raise _not_taken(book.path, file)
                 _give_mode(log, file)
+                if not _is_own(log) and has_more_readers(log, file):
+                    raise cannot_open(
+                        book, Why.IN_USE if is_used(file) else Why.LOG_READ
+                    )
 
 
-def _remove_unfit(book: BookFile, folder: int, name: str, file: BinaryIO) -> None:
-    """Removes a log without work that this user may not use, or others may use who may not use the book."""
-    with suppress(FileNotFoundError):
-        found = os.stat(name, dir_fd=folder, follow_symlinks=False)
-        _refuse_other(found)
-        if not has_page(found.st_size) and _is_unfit(folder, name, file):
+def _renew_unfit(book: BookFile, place: Place, file: BinaryIO) -> None:
+    """Removes a log without work that this user may not use, or others may use who may not use the book.
+
+    In the place of one with work a copy is put, which those don't have open who may not read the book.
+    """
+    folder, name = place.folder, place.name
+    try:
+        _refuse_other(os.stat(name, dir_fd=folder, follow_symlinks=False))
+        if _is_unfit(folder, name, file):
             # while a session has the book, it is using the log
-            with suppress(OSError, Refused), held(book, os.O_RDWR):
-                found = os.stat(name, dir_fd=folder, follow_symlinks=False)
-                if not has_page(found.st_size):
+            with suppress(Refused), held(book, os.O_RDWR) as found:
+                if not os.path.samestat(
+                    os.fstat(found.fileno()), os.fstat(file.fileno())
+                ):
+                    return
+                if has_page(place.size()):
+                    _copy_log(book, place, file)
+                else:
                     os.unlink(name, dir_fd=folder)
+    except MayNotLast as failed:
+        raise Failed(
+            f"A copy was put in the place of “{book.log}”, which more people could read than the book, but its"
+            f" folder could not be brought to the disk: {failed.strerror}. Nothing else was changed. See"
+            " to the disk, and try again."
+        ) from failed
+    except OSError:
+        # it stays, and is judged as it is
+        pass
+
+
+def _copy_log(book: BookFile, place: Place, file: BinaryIO) -> None:
+    """Puts the bytes of a log that more may read in its place, as a new file with the access of its book.
+
+    Whenever this ends, one of the two files has the name, and all of the work.
+    """
+    with alone(place.folder, place.name) as log:
+        if has_more_writers(log, file) or not has_more_readers(log, file):
+            return
+        with made_beside(book.real) as made:
+            with create(made) as written:
+                copy_bytes(log.fileno(), written.fileno())
+                give_list(written.fileno(), file.fileno())
+                give_access(written.fileno(), file.fileno())
+                os.fsync(written.fileno())
+                like = os.fstat(written.fileno())
+            put_in_place(made, place, like)
 
 
 def _is_unfit(folder: int, name: str, file: BinaryIO) -> bool:
@@ -143,12 +187,17 @@ def _give_mode(log: BinaryIO, file: BinaryIO) -> None:
     What a list of access gives to single users stays as it is, unless they may not read the book.
     """
     found, like = os.fstat(log.fileno()), os.fstat(file.fileno())
-    if os.geteuid() not in (0, found.st_uid):
+    if not _is_own(log):
         return
     if is_read := has_more_readers(log, file):
         give_list(log.fileno(), file.fileno())
     if is_read or not access_list(file.fileno()) and _access(found) != _access(like):
         give_access(log.fileno(), file.fileno())
+
+
+def _is_own(log: BinaryIO) -> bool:
+    """Whether this user may change the mode of a log."""
+    return os.geteuid() in (0, os.fstat(log.fileno()).st_uid)
 
 
 def _access(found: os.stat_result) -> tuple[int, int]:

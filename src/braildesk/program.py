@@ -67,6 +67,7 @@ _NOT_ASKED = (
     Why.LOG_OPEN,
     Why.LOG_OPEN_TO_READ,
     Why.LOG_STAYS,
+    Why.LOG_READ,
     Why.IN_USE,
     Why.LOG_IN_USE,
     Why.NO_LOG,

@@ -25,6 +25,7 @@ _UNTOLD = frozenset(
         Why.LOG_OPEN,
         Why.LOG_OPEN_TO_READ,
         Why.LOG_STAYS,
+        Why.LOG_READ,
         Why.READ_ONLY,
         Why.NO_ROOM,
         Why.OVER_QUOTA,

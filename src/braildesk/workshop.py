@@ -248,6 +248,15 @@ def put_over(made: Path, target: Place, like: os.stat_result) -> None:
     _sync_folder(target)
 
 
+def put_in_place(made: Path, target: Place, like: os.stat_result) -> None:
+    """Gives a file the name of another, which is no more then. ``Swapped`` as for ``put``."""
+    with _folder_of(made) as folder, _known(folder, made.name, like) as judge:
+        names = made.name, target.name
+        os.replace(*names, src_dir_fd=folder, dst_dir_fd=target.folder)
+        judge(target)
+    _sync_folder(target)
+
+
 def give_access(file: int, like: int) -> None:
     """Gives a file the mode of another, and its group and owner if this process may.
 

@@ -3,6 +3,7 @@
 import errno
 import fcntl
 import os
+import pwd
 import shutil
 import signal
 import sqlite3
@@ -35,6 +36,7 @@ from braildesk import (
     Table,
     Why,
     fenced,
+    held,
     limits,
     making,
     opening,
@@ -54,10 +56,11 @@ from strangers import (
     NEEDS_ROOT,
     STRANGER,
     as_stranger,
+    become_stranger,
     in_time,
     lead_to,
 )
-from tool import WAIT_SECONDS, scribe
+from tool import WAIT_SECONDS, Ran, scribe
 
 ROOT = Path(__file__).parents[2]
 #: The number of an entry that names no user and no group.
@@ -1248,6 +1251,127 @@ def test_nobody_may_read_a_log_who_may_not_read_its_book(
     assert as_stranger(lambda: log.open("rb").close(), STRANGER - 2) != ""
     assert as_stranger(lambda: log.open("r+b").close(), own) == ""
     assert as_stranger(lambda: Session(book).close(), own) == ""
+
+
+@NEEDS_ROOT
+def test_a_log_of_a_colleague_that_more_may_read_is_made_anew_with_its_work(
+    book: Path,
+) -> None:
+    log, own = Path(f"{book}-wal"), STRANGER - 1
+    killed_after(book, "of a colleague")
+    # the colleague is of the group that may use the book
+    for path, uid, mode in ((book, own, 0o660), (log, STRANGER, 0o664)):
+        os.chown(path, uid, STRANGER)
+        path.chmod(mode)
+    lead_to(book.parent)
+    book.parent.chmod(0o777)
+
+    def type_more() -> None:
+        with Session(book) as session:
+            assert session.print_of(1) == "of a colleague"
+            session.add_paragraph("end", "en", "secret")
+            kill(session)
+
+    # who opened it while that was permitted reads on in what nothing more is written to
+    with open(log, "rb") as opened_before:
+        assert as_stranger(type_more, own) == ""
+        assert b"secret" not in opened_before.read()
+    assert b"secret" in log.read_bytes()
+    assert stat.S_IMODE(log.stat().st_mode) & 0o007 == 0
+    assert names(book.parent) == {book.name, log.name}
+    with Session(book) as session:
+        assert [session.print_of(1), session.print_of(2)] == [
+            "of a colleague",
+            "secret",
+        ]
+
+
+@NEEDS_ROOT
+@pytest.mark.parametrize("is_after", [False, True])
+@pytest.mark.parametrize(
+    "step", ["create", "copy_bytes", "give_list", "give_access", "put_in_place"]
+)
+def test_the_work_in_a_log_stays_whenever_its_making_anew_is_killed(
+    book: Path, monkeypatch: pytest.MonkeyPatch, step: str, is_after: bool
+) -> None:
+    log, own = Path(f"{book}-wal"), STRANGER - 1
+    killed_after(book, "of a colleague")
+    for path, uid, mode in ((book, own, 0o660), (log, STRANGER, 0o664)):
+        os.chown(path, uid, STRANGER)
+        path.chmod(mode)
+    lead_to(book.parent)
+    book.parent.chmod(0o777)
+    work, whole = log.read_bytes(), getattr(held, step)
+
+    def killed(*asked: Any) -> Any:
+        if is_after:
+            whole(*asked)
+        os.kill(os.getpid(), signal.SIGKILL)
+
+    with monkeypatch.context() as patched:
+        patched.setattr(held, step, killed)
+        child = os.fork()
+        if child == 0:
+            become_stranger(own)
+            fit_log(BookFile(str(book)))
+            os._exit(0)
+    _, status = os.waitpid(child, 0)
+    assert os.WTERMSIG(status) == signal.SIGKILL
+    assert log.read_bytes() == work
+    assert as_stranger(lambda: fit_log(BookFile(str(book))), own) == ""
+    assert log.read_bytes() == work
+    assert stat.S_IMODE(log.stat().st_mode) & 0o007 == 0
+    assert braildesk.check(book) == 2
+
+
+@NEEDS_ROOT
+@pytest.mark.parametrize("has_work", [False, True])
+def test_nothing_is_written_to_a_log_that_more_may_read_and_its_folder_keeps(
+    book: Path, tmp_path: Path, has_work: bool
+) -> None:
+    log, own = Path(f"{book}-wal"), STRANGER - 1
+    if has_work:
+        killed_after(book, "of a colleague")
+    log.touch()
+    for path, uid, mode in ((book, own, 0o660), (log, STRANGER, 0o664)):
+        os.chown(path, uid, STRANGER)
+        path.chmod(mode)
+    lead_to(tmp_path)
+    tmp_path.chmod(0o1777)
+
+    def become_another_of_the_group() -> None:
+        os.setgroups([STRANGER])
+        os.setgid(own)
+        os.setuid(own)
+
+    def asked(*words: str, given: str = "") -> Ran:
+        return scribe(
+            words[0],
+            book,
+            *words[1:],
+            folder=tmp_path,
+            given=given,
+            before=become_another_of_the_group,
+        )
+
+    refused = asked("run", given="type end en secret\n")
+    owner = pwd.getpwuid(STRANGER).pw_name
+    assert refused == Ran(
+        2,
+        "",
+        f"“{log}” may be read by people who may not read “{book}”, and what is kept would stand there"
+        f" first. It belongs to “{owner}”, and no other could be put in its place: its folder doesn't"
+        f" let you, or its disk has no room. Nothing was changed. Ask “{owner}” to open the book once,"
+        " by which that file gets its permissions, or ask an administrator to do so.\n",
+    )
+    # what is there may be looked at, by a copy
+    looked = asked("list")
+    assert (looked.status, "of a colleague" in looked.shown) == (0, has_work)
+    assert stat.S_IMODE(log.stat().st_mode) == 0o664
+    assert as_stranger(lambda: Session(book).close()) == ""
+    assert stat.S_IMODE(log.stat().st_mode) == 0o660
+    assert asked("run", given="type end en secret\n").status == 0
+    assert braildesk.check(book) == 2 + has_work
 
 
 @NEEDS_ROOT

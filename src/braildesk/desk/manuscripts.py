@@ -28,6 +28,7 @@ from braildesk.desk.import_note import How
 from braildesk.desk.readings import prints
 from braildesk.desk.replacements import Replaced, Replacer
 from braildesk.named_files import TooLarge, is_handed_over, open_file, read_file
+from braildesk.protocol.sentences import LOOKED_AT_BY_COPY
 from braildesk.protocol.value import Value
 from braildesk.text import limits
 from braildesk.text.characters import shortened
@@ -176,7 +177,7 @@ def _of_open_book(path: Path, wait: float) -> "Manuscript":
     try:
         session = Session(path, timeout=wait)
     except CannotOpen as refusal:
-        if refusal.why not in (Why.IN_USE, Why.DENIED, Why.LOG_DENIED, Why.READ_ONLY):
+        if refusal.why not in (Why.IN_USE, *LOOKED_AT_BY_COPY):
             raise
         # imported here, since few books are such
         from braildesk.snapshot import copied_session

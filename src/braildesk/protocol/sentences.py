@@ -25,6 +25,7 @@ class Why(StrEnum):
     LOG_OPEN = "log open to others"
     LOG_OPEN_TO_READ = "log open to others than this reader"
     LOG_STAYS = "log open to others and held by its folder"
+    LOG_READ = "log read by others"
     NO_DATABASE = "no database"
     READ_ONLY = "read-only"
     NO_ROOM = "no room"
@@ -46,6 +47,10 @@ class Why(StrEnum):
     TOO_LARGE_FOR_BOOK = "too large for a book"
     NO_PATH = "no path"
     UNKNOWN = "unknown"
+
+
+#: Why a book isn't opened of which a copy may be looked at.
+LOOKED_AT_BY_COPY = (Why.DENIED, Why.LOG_DENIED, Why.LOG_READ, Why.READ_ONLY)
 
 
 #: What a person reads of each code.
@@ -177,6 +182,10 @@ UNOPENED = MappingProxyType(
         " the folder and an administrator. {nothing} If you know that the work is yours, ask an"
         " administrator to make {log} yours, and open the book again. If you don't, ask for it to be"
         " moved away, and go on without it.",
+        Why.LOG_READ: "{log} may be read by people who may not read {path}, and what is kept would stand there"
+        " first. It belongs to {log_owner}, and no other could be put in its place: its folder doesn't let"
+        " you, or its disk has no room. {nothing} Ask {log_owner} to open the book once, by which that file"
+        " gets its permissions, or ask an administrator to do so.",
         Why.READ_ONLY: "The disk of {path} can only be read, and a book is opened where it can be"
         " written. {nothing} Go on with a copy, or a new book, on another disk.",
         Why.NO_ROOM: "There is no room on the disk of {path}. {nothing} Make room there,"

@@ -1,5 +1,6 @@
 """The sentence of a refusal, filled from what was asked and what was answered."""
 
+import os
 import unicodedata
 from collections.abc import Callable
 
@@ -246,6 +247,22 @@ class _Fields:
     def log(self) -> str:
         """The path of the log beside the file of a book."""
         return self._beside(log_path)
+
+    @property
+    def log_owner(self) -> str:
+        """The name of the user to whom the log belongs, or the number of one without a name."""
+        # imported here, since few refusals need it
+        import pwd
+
+        path = self._asked.path if isinstance(self._asked, AskedOfFile) else ""
+        try:
+            number = os.lstat(log_path(path)).st_uid
+        except OSError:
+            return "another user"
+        try:
+            return shortened(pwd.getpwuid(number).pw_name)
+        except KeyError:
+            return f"user {number}"
 
     @property
     def take_log(self) -> str:

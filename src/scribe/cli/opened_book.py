@@ -18,6 +18,7 @@ from braildesk import (
 from braildesk.beginning import Beginning
 from braildesk.desk import USUAL_WAIT
 from braildesk.desk.places import ManyPlaces
+from braildesk.protocol.sentences import LOOKED_AT_BY_COPY
 from braildesk.session import session_of
 from braildesk.text.excerpt import excerpt_lines
 from braildesk.text.spans import Span
@@ -136,7 +137,7 @@ def looked_at(
     try:
         session = opened() if opened else open_session(arguments, console)
     except CannotOpen as refusal:
-        if refusal.why not in (Why.IN_USE, Why.DENIED, Why.LOG_DENIED, Why.READ_ONLY):
+        if refusal.why not in (Why.IN_USE, *LOOKED_AT_BY_COPY):
             raise
         # imported here, since few commands meet a book that they can't open
         from braildesk.snapshot import copied_session

@@ -4,9 +4,10 @@ from argparse import ArgumentParser, Namespace
 from collections.abc import Sequence
 from dataclasses import replace
 
-from braildesk import CannotOpen, Why
+from braildesk import CannotOpen
 from braildesk.desk.export import Job
 from braildesk.desk.ranges import PageRange
+from braildesk.protocol.sentences import LOOKED_AT_BY_COPY
 
 from scribe.cli.page_size import add_page_size, page_size_of
 from scribe.cli.parser import (
@@ -81,7 +82,7 @@ def run(arguments: Namespace, console: Console) -> Status:
     try:
         return _exported(job, volume, wanted, console)
     except CannotOpen as refusal:
-        if refusal.why not in (Why.DENIED, Why.LOG_DENIED, Why.READ_ONLY):
+        if refusal.why not in LOOKED_AT_BY_COPY:
             raise
     # imported here, since few books may only be read
     from braildesk.snapshot import copied
