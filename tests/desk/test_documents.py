@@ -1308,6 +1308,35 @@ def test_words_in_odt_are_emphasized_by_what_their_style_is_based_on(
     assert lost(found, LossKind.SUPERSCRIPT) == ["Raised"]
 
 
+def test_a_paragraph_of_an_odt_is_noted_that_is_emphasized_by_its_style_but_headings(
+    tmp_path: Path,
+) -> None:
+    def style(name: str, base: str, said: str = "") -> str:
+        return (
+            f'<style:style style:name="{name}" style:family="paragraph" style:parent-style-name="{base}">'
+            f"<style:text-properties {said}/></style:style>"
+        )
+
+    bold, plain = 'fo:font-weight="bold"', 'fo:font-weight="normal"'
+    styles = style("Warning", "Body", bold) + style("Calm", "Warning", plain)
+    styles += style("Title", "Body", bold) + style("Table_20_Heading", "Body", bold)
+    own = style("P1", "Warning") + style("P2", "Body", 'fo:font-weight="600"')
+    own += style("P3", "Calm") + style("P4", "Body", 'fo:font-variant="small-caps"')
+    own += style("P5", "Body", 'fo:text-transform="uppercase"')
+    own += style("P6", "Body", 'style:text-underline-style="solid"')
+    own += style("P7", "P6", 'style:text-underline-style="none"')
+    own += style("P8", "Table_20_Heading") + style("P9", "Table_20_Heading", bold)
+    own += style("P0", "Warning", 'text:display="true"')
+    names = ("Calm", "Title", "Table_20_Heading", *(f"P{n}" for n in range(10)))
+    text = "".join(
+        f'<text:p text:style-name="{name}">In {name}</text:p>' for name in names
+    )
+    text += '<text:h text:outline-level="1" text:style-name="P1">A heading</text:h>'
+    found = read_manuscript(odt(tmp_path / "a.odt", text, own, styles))
+    emphasized = [f"In {name}" for name in "P0 P1 P2 P4 P5 P6 P9".split()]
+    assert lost(found, LossKind.EMPHASIS) == emphasized
+
+
 def test_each_style_of_an_odt_is_looked_at_once_however_many_are_based_on_it(
     monkeypatch: pytest.MonkeyPatch,
 ) -> None:
@@ -2480,6 +2509,25 @@ def test_words_that_a_sheet_alone_emphasizes_or_raises_are_noted() -> None:
     assert lost(found, LossKind.SUPERSCRIPT) == ["4"]
     assert lost(found, LossKind.SUBSCRIPT) == ["6"]
     assert found.missing == ()
+
+
+def test_a_paragraph_of_a_page_is_noted_that_a_sheet_alone_emphasizes_but_headings() -> (
+    None
+):
+    sheet = (
+        ".bold, th p, h2 p { font-weight: bold } .line { text-decoration: line-through } .up { text-transform: uppercase }"
+        " .smallcaps, em { font-variant: small-caps } .light { font-weight: 400; text-decoration: none }"
+    )
+    body = (
+        "<p class=bold>One</p><p class=light>two</p><p class=line>three</p><p class=up>four</p>"
+        "<p class=smallcaps>five</p><p style='font: bold 1em serif'>six</p><p class=bold style='font-weight: 400'>seven"
+        "<h2 class=bold>Eight</h2><h2><p>Nine</p></h2><table><tr><th><p>ten</p><th class=bold>eleven</table>"
+        "<p>a <span class=bold>twelve</span> <b>thirteen</b></p>"
+    )
+    page = f"<html><head><style>{sheet}</style></head><body>{body}</body></html>"
+    found = read_document(page.encode(), ManuscriptKind.HTML)
+    emphasized = "One three four five six twelve thirteen".split()
+    assert sorted(lost(found, LossKind.EMPHASIS)) == sorted(emphasized)
 
 
 @pytest.mark.parametrize(

@@ -81,6 +81,8 @@ _ENDED_BY: dict[str, tuple[str, ...]] = {
     **dict.fromkeys(("dt", "dd"), ("dt", "dd")),
     **{tag: (tag,) for tag in ("p", "tr", "option")},
 }
+#: Headings and the heads of columns, which are bold as such.
+_HEADS = ("th", "h1", "h2", "h3", "h4", "h5", "h6")
 _FOR_PRINT = re.compile(r"\b(all|print)\b", re.IGNORECASE)
 #: In how many pieces of a text on either side of a place the words are looked for that run together there.
 _BESIDE = 8
@@ -943,9 +945,10 @@ class _Html(Tags):
         classes = (attributes.get("class") or "").split()
         own = frozenset((*classes, *own_values(attributes.get("style") or "")))
         is_in_link = tag == "a" or self._tags["a"] > 0
+        is_in_head = any(self._tags[head] for head in _HEADS)
         text = len(self._texts) - 1
         place = (text + 1, 0) if tag in BLOCKS else (text, len(self._texts[text]))
-        element = Emphasized(tag, shown, own, is_in_link)
+        element = Emphasized(tag, shown, own, is_in_link, is_in_head)
         self._emphasis.begin(element, len(self._path) - 1, place)
 
     def _leave(self, tag: str) -> None:

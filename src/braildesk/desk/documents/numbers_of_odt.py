@@ -16,7 +16,7 @@ from braildesk.desk.documents import tables_of_odt
 from braildesk.desk.documents.kinds import is_media, part_of, root_of, unpacked
 from braildesk.desk.documents.numbers import BASES
 from braildesk.desk.documents.reading import Loss, LossKind, plain, whole
-from braildesk.desk.documents.styles_of_odt import Styles, italics
+from braildesk.desk.documents.styles_of_odt import Styles, emphasized
 from braildesk.desk.documents.tree import letters, roman
 from braildesk.desk.documents.xml_writing import Rewriting, rewritten
 
@@ -117,7 +117,7 @@ def with_odt_numbers(
             elif name == _STYLES and (named := words.written(styles)):
                 part = _rewritten(part, styles, named)
             other.writestr(name, part)
-    losses = [*numbering.losses, *spans.losses, *italics(root, styles)]
+    losses = [*numbering.losses, *spans.losses, *emphasized(root, styles)]
     return made.getvalue(), losses
 
 

@@ -36,8 +36,9 @@ class Emphasized:
     values: Mapping[str, str]
     #: What it says itself, with its classes.
     own: frozenset[str]
-    #: Whether it is a link or within one.
+    #: Whether it is a link or within one, and whether it is within a heading or the head of a column.
     is_in_link: bool
+    is_in_head: bool
 
 
 class PageEmphasis:
@@ -89,7 +90,8 @@ def _lost(element: Emphasized) -> Iterator[LossKind]:
         is_usual = tag == _LINK and name == "text-decoration"
         is_usual |= tag == _SMALL and name == "font-variant" and name in own
         is_usual |= _SMALL_CLASS in own and name == "font-variant"
-        is_whole = tag == _PARAGRAPH and name == "font-style"
+        is_bold_head = element.is_in_head and name == "font-weight"
+        is_whole = tag == _PARAGRAPH and not is_bold_head
         said = values.get(name, "").split()
-        if (is_within_line or is_whole) and not is_usual:
+        if is_whole or is_within_line and not is_usual:
             yield from [LossKind.EMPHASIS] * any(map(emphasized.fullmatch, said))

@@ -4,7 +4,8 @@ pandoc finds emphasis of some kinds that a style of words has itself, and looks 
 styles that are based on each other, or on one that isn't there, and none of whole paragraphs.
 """
 
-from collections.abc import Iterator, Mapping
+import re
+from collections.abc import Collection, Iterator, Mapping
 from copy import deepcopy
 from itertools import islice
 from xml.etree import ElementTree
@@ -22,7 +23,9 @@ _PARENT, _PROPERTIES = f"{_STYLE}parent-style-name", f"{_STYLE}text-properties"
 _DISPLAY = f"{_TEXT}display"
 #: How many styles are looked at of those that one is based on, for what they hide.
 _DEEPEST = 50
-_SLOPE, _ITALIC = f"{_FO}font-style", ("italic", "oblique")
+#: The styles of headings and of heads of columns, which are bold as such.
+_HEADS = re.compile(r"(.*_20_)?heading(_20_\d+)?|title", re.IGNORECASE)
+_WEIGHT, _PLAIN = f"{_FO}font-weight", "normal"
 #: How many characters are shown of a paragraph, and how many of its texts are looked at for them.
 _SHOWN, _FRONT = 60, 1_000
 #: What words that are emphasized, or stand above or below the line, have by their style.
@@ -40,17 +43,25 @@ _OTHER = {
     f"{_STYLE}text-overline-style": ("none",),
 }
 _LINE = f"{_STYLE}text-underline-style"
+#: Emphasis of whole paragraphs, with the values that are none.
+_WHOLE = {
+    **_OTHER,
+    f"{_FO}font-style": (_PLAIN,),
+    _WEIGHT: (_PLAIN, "100", "200", "300", "400", "500"),
+    _LINE: ("none",),
+    f"{_STYLE}text-line-through-style": ("none",),
+}
 
 
-def italics(root: Element, *others: Element) -> Iterator[Loss]:
-    """The paragraphs of a text that are in italics as a whole, by its styles or those of other parts."""
+def emphasized(root: Element, *others: Element) -> Iterator[Loss]:
+    """The paragraphs of a text that are emphasized as a whole, by its styles or those of other parts."""
     styles = Styles("paragraph", *others, root)
     gone = {
         id(each) for tag in _GONE for part in root.iter(tag) for each in part.iter()
     }
     for paragraph in root.iter(f"{_TEXT}p"):
         emphasis = styles.emphasis(paragraph.get(f"{_TEXT}style-name", ""))
-        if id(paragraph) in gone or emphasis.get(_SLOPE) not in _ITALIC:
+        if id(paragraph) in gone or not _is_any(emphasis, _WHOLE):
             continue
         # a note in it has paragraphs, which may have notes
         front = islice((each[:_FRONT] for each in paragraph.itertext()), _FRONT)
@@ -102,7 +113,7 @@ class Styles:
             id(style): _written(style, self._whole(style))
             for style in root.iter(f"{_STYLE}style")
             if style.get(f"{_STYLE}family") == self._family
-            and (_PARENT in style.attrib or _is_otherwise(_emphasis(style)))
+            and (_PARENT in style.attrib or _is_any(_emphasis(style), _OTHER))
         }
 
     def emphasis(self, name: str) -> dict[str, str]:
@@ -133,14 +144,18 @@ def _emphasis(style: Element) -> dict[str, str]:
     properties = style.find(_PROPERTIES)
     own = {} if properties is None else properties.attrib
     names = (*_EMPHASIS, *_OTHER, _DISPLAY)
-    return {name: own[name] for name in names if name in own}
+    found = {name: own[name] for name in names if name in own}
+    is_whole = style.get(f"{_STYLE}family") == "paragraph"
+    if is_whole and _HEADS.fullmatch(style.get(f"{_STYLE}name", "")):
+        found[_WEIGHT] = _PLAIN
+    return found
 
 
-def _is_otherwise(emphasis: Mapping[str, str]) -> bool:
-    """Whether there is emphasis of which pandoc knows nothing."""
+def _is_any(emphasis: Mapping[str, str], kinds: Mapping[str, Collection[str]]) -> bool:
+    """Whether there is emphasis of some kinds, each with the values that are none."""
     return any(
-        emphasis.get(name, values[0]).lower() not in values
-        for name, values in _OTHER.items()
+        name in emphasis and emphasis[name].lower() not in values
+        for name, values in kinds.items()
     )
 
 
@@ -153,6 +168,6 @@ def _written(style: Element, emphasis: dict[str, str]) -> str:
     if properties is None:
         properties = SubElement(made, _PROPERTIES)
     properties.attrib.update(emphasis)
-    if _is_otherwise(emphasis):
+    if _is_any(emphasis, _OTHER):
         properties.set(_LINE, "solid")
     return ElementTree.tostring(made, encoding="unicode")
