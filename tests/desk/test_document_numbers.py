@@ -512,6 +512,63 @@ def test_what_a_field_has_within_its_code_is_no_print(
     assert texts(tmp_path, body, "") == [f"{shown} c", "d"]
 
 
+def code(text: str) -> str:
+    return f'<w:r><w:instrText xml:space="preserve">{text}</w:instrText></w:r>'
+
+
+def shown(text: str, address: str = "") -> str:
+    """A field that shows a text, which may be a link."""
+    its = f' HYPERLINK "{address}" ' if address else " REF b "
+    return CODE + code(its) + RESULT + run(text) + END
+
+
+ONE = CODE + code(" GOTOBUTTON a Go ") + shown("one") + END
+IN_A_RUN = "<w:r>{}</w:r>".format(
+    '<w:fldChar w:fldCharType="begin"/><w:instrText>DATE</w:instrText><w:fldChar w:fldCharType="end"/>'
+)
+
+
+@pytest.mark.parametrize(
+    "inner",
+    [
+        ONE + CODE + END,
+        ONE + IN_A_RUN,
+        ONE + '<w:fldSimple w:instr="MACROBUTTON Run Press"/>',
+        CODE + shown("one") + END,
+        CODE + RESULT + run("one") + END + CODE + code("DATE") + END,
+        CODE + code("IF ") + CODE + code("DATE") + RESULT + run("9") + END + RESULT
+        + run("one") + END,
+        CODE + code("EQ ") + CODE + code("REF b") + RESULT + run("o")
+        + CODE + code("EQ ") + shown("ne") + END + END + END + CODE + END,
+        CODE + code("DATE") + RESULT + run("one"),
+    ],
+    ids="empty run simple coded half choice nested open".split(),
+)  # fmt: skip
+@pytest.mark.parametrize("is_in_others", [True, False])
+def test_what_stands_after_a_field_keeps_its_place_and_is_no_link(
+    tmp_path: Path, inner: str, is_in_others: bool
+) -> None:
+    if is_in_others:
+        inner = CODE + code(" REF c ") + RESULT + inner + END
+    body = paragraph(run("At "), inner, run(" two "), shown("three", "http://x.org"))
+    body = body.replace("</w:p>", run(" four") + "</w:p>") + paragraph(run("five"))
+    found = read_manuscript(docx(tmp_path / "a.docx", body))
+    assert found.texts == ["At one two three four", "five"]
+    links = [loss.words for loss in found.losses if loss.what is LossKind.LINK]
+    assert links == ["three"]
+
+
+def test_words_of_fields_that_lead_astray_are_said_to_be_missing(
+    tmp_path: Path,
+) -> None:
+    button = CODE + code(" MACROBUTTON Run Go ") + shown("one") + code(" now ") + END
+    choice = '<w:fldChar w:fldCharType="begin"><w:ffData><w:ddList><w:listEntry w:val="Yes"/></w:ddList></w:ffData></w:fldChar>'
+    form = f"<w:r>{choice}</w:r>{code('FORMDROPDOWN')}{END}"
+    found = read_manuscript(docx(tmp_path / "a.docx", paragraph(button, form)))
+    assert found.texts == ["one"]
+    assert [each.words for each in found.missing] == ["Yes", "Go now"]
+
+
 @pytest.mark.parametrize("is_whole", [True, False])
 def test_a_document_in_the_strict_form_is_read_as_any_other(
     tmp_path: Path, is_whole: bool

@@ -23,7 +23,7 @@ from pathlib import PurePosixPath
 from xml.etree.ElementTree import Element, ParseError
 
 from braildesk.desk.documents import styles_of_odt, word_print, word_styles
-from braildesk.desk.documents.field_codes import shown_of_code
+from braildesk.desk.documents.field_codes import CODES, SIGNS, shown_of_code
 from braildesk.desk.documents.kinds import (
     ManuscriptKind,
     NoDocument,
@@ -512,7 +512,7 @@ def _codes(root: Element) -> Iterator[str]:
     codes: list[list[str] | None] = []
     begun: list[bool] = []
     for element in root.iter():
-        if element.tag == f"{_W}fldChar":
+        if element.tag in SIGNS:
             kind = element.get(f"{_W}fldCharType")
             if kind == "begin":
                 codes.append([])
@@ -525,7 +525,7 @@ def _codes(root: Element) -> Iterator[str]:
         elif element.tag == f"{_W}fldSimple":
             if word_print.has_no_result(element):
                 yield element.get(f"{_W}instr", "")
-        elif element.tag == f"{_W}instrText":
+        elif element.tag in CODES:
             if codes and (code := codes[-1]) is not None:
                 code.append(element.text or "")
         elif element.tag == f"{_W}t" and element.text:

@@ -13,6 +13,7 @@ from xml.sax.saxutils import escape
 from zipfile import ZipFile
 
 from braildesk.desk.documents import word_print
+from braildesk.desk.documents.field_codes import UNSEEN, unseen_fields
 from braildesk.desk.documents.kinds import is_media, part_of, root_of, unpacked
 from braildesk.desk.documents.reading import Loss, LossKind, plain, whole
 from braildesk.desk.documents.tree import roman
@@ -134,7 +135,7 @@ def _restyled(part: bytes, styles: Element) -> bytes:
 def _numbered(part: bytes, root: Element, labels: Iterator[str]) -> bytes:
     """A part with what stands at the front of each paragraph, and what Word shows beside its text."""
     unseen = _in_codes(root) | word_print.replaced(root) | _for_older(root)
-    ahead = word_print.texts_ahead(root)
+    ahead, fields = word_print.texts_ahead(root), frozenset(unseen_fields(root))
     has_titles = b"tblCaption" in part
     paragraphs = root.iter(f"{_W}p") if has_titles else ()
     texts = {plain("".join(each.itertext())) for each in paragraphs}
@@ -158,7 +159,7 @@ def _numbered(part: bytes, root: Element, labels: Iterator[str]) -> bytes:
         lambda name: ahead.get(place, ""),
         _AROUND,
         is_left_out,
-        _RENAMED,
+        lambda name: (UNSEEN if place in fields else _RENAMED).get(name, ""),
         _PREFIXES,
     )
     return rewritten(part, how)

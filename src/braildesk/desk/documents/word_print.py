@@ -14,7 +14,7 @@ from itertools import accumulate
 from xml.etree.ElementTree import Element
 from xml.sax.saxutils import escape, quoteattr
 
-from braildesk.desk.documents.field_codes import shown_of_code
+from braildesk.desk.documents.field_codes import UNSEEN, shown_of_code
 from braildesk.desk.documents.reading import Loss, LossKind, plain, whole
 from braildesk.desk.documents.table_places import Places
 
@@ -122,8 +122,9 @@ def texts_ahead(root: Element) -> dict[int, str]:
 
 def _field(code: str) -> str:
     """A field whose code stands in the text, of which pandoc shows nothing."""
-    front, end = (f'<w:fldChar w:fldCharType="{kind}"/>' for kind in ("begin", "end"))
-    text = f"<w:instrText>{escape(code)}</w:instrText>"
+    sign, name = UNSEEN.values()
+    front, end = (f'<{sign} w:fldCharType="{kind}"/>' for kind in ("begin", "end"))
+    text = f"<{name}>{escape(code)}</{name}>"
     return f"<w:r>{front}{text}{end}</w:r>" if shown_of_code(code) else ""
 
 

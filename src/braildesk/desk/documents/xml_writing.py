@@ -34,8 +34,8 @@ class Rewriting:
     unwrapped: Collection[str] = ()
     #: Whether an element with names and values of attributes is left out, with all that it has.
     is_left_out: Callable[[str, Sequence[str]], bool] = _is_kept
-    #: The names of elements that stand in place of others.
-    renamed: Mapping[str, str] = field(default_factory=dict)
+    #: The name that stands in place of that of an element, if one does.
+    renamed: Callable[[str], str] = _nothing_at
     #: The prefixes by which pandoc knows addresses.
     prefixes: Mapping[str, str] = field(default_factory=dict)
 
@@ -104,7 +104,7 @@ class _Writer:
         pairs = [*declared.items()]
         pairs += zip(map(self._name, attributes[::2]), attributes[1::2])
         written = "".join(f" {key}={quoteattr(value)}" for key, value in pairs)
-        own = self._how.renamed.get(found) or self._name(name)
+        own = self._how.renamed(found) or self._name(name)
         self.pieces += (f"<{own}{written}>", front)
         self._ends.append(f"</{own}>")
 
