@@ -2260,6 +2260,18 @@ def test_pictures_without_an_address_are_described_too() -> None:
     assert len(lost(found, LossKind.PICTURE)) == 1
 
 
+def test_paragraphs_of_a_list_beside_its_items_are_typed_without_bullets() -> None:
+    body = (
+        "<ul class=x><p>one</p><li>two</li><p>three<p>four</p><li>five<ul><p>six</p></ul></li><h2>seven</h2></ul>"
+        "<ol start=2><pre>eight</pre><li>nine<p>ten<li>eleven</li>\n<p>twelve</p></ol><q>thirteen<ul><p>fourteen</p></ul></q>"
+        "<template><ul><p>no</p></ul></template><ul><ul><li>fifteen</li></ul></ul><p>sixteen"
+    )
+    found = read_document(f"<html>{body}</html>".encode(), ManuscriptKind.HTML)
+    texts = "one|\u2022 two|three|four|\u2022 five|six|seven|eight|2. nine|ten|3. eleven|twelve|\u201cthirteen|fourteen\u201d"
+    assert found.texts == [*texts.split("|"), "\u2022 fifteen", "sixteen"]
+    assert found.missing == ()
+
+
 def test_an_item_of_a_list_keeps_its_number_whatever_it_begins_with() -> None:
     page = (
         "<html><ol><li><table><tr><td>a<td>b<tr><td>c<td>d</table><li><h2>Head</h2>"

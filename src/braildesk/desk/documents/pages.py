@@ -13,6 +13,7 @@ from bisect import bisect_left
 from collections import Counter
 from collections.abc import Mapping, Sequence
 from contextlib import suppress
+from dataclasses import dataclass
 from html import escape
 from io import BytesIO
 from pathlib import PurePosixPath
@@ -74,6 +75,23 @@ _TAG_END = re.compile(r"\s*</")
 _LINES = "pre"
 #: What print doesn't show, with all that it has.
 _TEMPLATE = "template"
+
+
+#: Lists, and paragraphs of which pandoc reads none beside the items of one.
+_LISTS, _ITEM = frozenset({"ol", "ul"}), "li"
+_BESIDE_ITEMS = frozenset("h1 h2 h3 h4 h5 h6 p pre".split())
+
+
+@dataclass(slots=True)
+class _List:
+    """A list of a page that is written anew: its tag, and the pieces that are this and the end of the last item."""
+
+    tag: str
+    front: int
+    last_end: int = 0
+    is_in_item: bool = False
+    #: Whether its tag isn't written yet, since paragraphs stand before its first item.
+    is_put_off: bool = False
 
 
 def with_line_feeds(text: str) -> str:
@@ -143,6 +161,8 @@ class _Rewriting(Tags):
         self._sizes: list[TableSize] = []
         self._places = places
         self._quotations = Quotations(self._pieces, self._put)
+        #: The lists that are open.
+        self._lists: list[_List] = []
         #: The addresses that the page has itself.
         self._addresses: set[str] = set()
         #: Where the templates begin that are open.
@@ -165,6 +185,8 @@ class _Rewriting(Tags):
         self._is_in_lines |= tag == _LINES
         if tag == "link" and (dict(attrs).get("rel") or "").lower() == "canonical":
             self._addresses.add((dict(attrs).get("href") or "").partition("#")[0])
+        if self._lists and not self._templates:
+            self._begin_in_list(tag, self._lists[-1])
         self._begin_part(tag)
         self._measure(tag, dict(attrs))
         if tag in PARTED:
@@ -178,6 +200,10 @@ class _Rewriting(Tags):
         if tag == QUOTATION and not self._templates:
             stop = self._start() + len(self.get_starttag_text() or "")
             self._quotations.begin(stop)
+        elif tag in _LISTS and not self._templates:
+            found = self.get_starttag_text() or ""
+            self._put(self._start(), self._start() + len(found), found)
+            self._lists.append(_List(found, len(self._pieces) - 1))
 
     def handle_startendtag(self, tag: str, attrs: list[tuple[str, str | None]]) -> None:
         self._rewrite(tag, attrs, "")
@@ -207,6 +233,8 @@ class _Rewriting(Tags):
             self._put(start, stop, "<br/>")
         elif tag == _TEMPLATE and self._templates:
             self._put(self._templates.pop(), stop, "")
+        elif self._lists and not self._templates:
+            self._end_in_list(tag, start, stop)
 
     def handle_comment(self, data: str) -> None:
         if saved := _SAVED.search(data):
@@ -231,6 +259,25 @@ class _Rewriting(Tags):
             is_sign = self._page.startswith("&", start)
             stop += is_sign and self._page.startswith(";", stop)
             self._quotations.show(start, stop)
+
+    def _begin_in_list(self, tag: str, its: _List) -> None:
+        """Writes no list before paragraphs that stand ahead of its items, and has an item go on with those after it."""
+        if tag == _ITEM:
+            self._put(self._start(), self._start(), its.tag * its.is_put_off)
+            its.is_in_item, its.is_put_off = True, False
+        elif tag in _BESIDE_ITEMS and not its.is_in_item:
+            self._pieces[its.last_end or its.front] = ""
+            its.is_put_off = not its.last_end
+
+    def _end_in_list(self, tag: str, start: int, stop: int) -> None:
+        """Notes the end of an item, and that of a list, which isn't written if the list isn't."""
+        its = self._lists[-1]
+        if tag == _ITEM and its.is_in_item:
+            self._put(start, stop, self._page[start:stop])
+            its.is_in_item, its.last_end = False, len(self._pieces) - 1
+        elif tag in _LISTS:
+            self._lists.pop()
+            self._put(start, stop, "" if its.is_put_off else self._page[start:stop])
 
     def _begin_part(self, tag: str) -> None:
         """Ends the parts of a table that end where another begins, and notes that one."""
