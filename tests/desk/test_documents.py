@@ -1337,6 +1337,29 @@ def test_a_paragraph_of_an_odt_is_noted_that_is_emphasized_by_its_style_but_head
     assert lost(found, LossKind.EMPHASIS) == emphasized
 
 
+def test_words_that_are_plain_in_an_emphasized_paragraph_of_an_odt_are_not_noted(
+    tmp_path: Path,
+) -> None:
+    style = '<style:style style:name="{}" style:family="{}"><style:text-properties fo:font-weight="{}"/></style:style>'
+    own = style.format("P1", "paragraph", "bold") + style.format("T1", "text", "normal")
+    own += style.format("T2", "text", "bold")
+    words = '<text:span text:style-name="{}">{}</text:span>'
+    inner = "<text:note-citation>1</text:note-citation><text:note-body><text:p>A note</text:p></text:note-body>"
+    text = (
+        f"One<text:tab/>two{words.format('T1', ' three ' + words.format('T2', 'four') + ' five ')}six"
+        f"<text:note>{inner}</text:note>{words.format('', ' seven')}"
+    )
+    text = f'<text:p text:style-name="P1">{text}</text:p>'
+    found = read_manuscript(odt(tmp_path / "a.odt", text, own))
+    assert found.texts[0] == "One two three four five six[1] seven"
+    assert sorted(lost(found, LossKind.EMPHASIS)) == [
+        "One two",
+        "four",
+        "four",
+        "six seven",
+    ]
+
+
 def test_each_style_of_an_odt_is_looked_at_once_however_many_are_based_on_it(
     monkeypatch: pytest.MonkeyPatch,
 ) -> None:

@@ -5,7 +5,7 @@ styles that are based on each other, or on one that isn't there, and none of who
 """
 
 import re
-from collections.abc import Collection, Iterator, Mapping
+from collections.abc import Collection, Iterable, Iterator, Mapping
 from copy import deepcopy
 from itertools import islice
 from xml.etree import ElementTree
@@ -19,6 +19,10 @@ _TEXT = "{urn:oasis:names:tc:opendocument:xmlns:text:1.0}"
 _OFFICE = "{urn:oasis:names:tc:opendocument:xmlns:office:1.0}"
 #: What isn't typed.
 _GONE = (f"{_TEXT}tracked-changes", f"{_OFFICE}annotation")
+_SPAN = f"{_TEXT}span"
+#: What isn't text of the paragraph in which it stands, and what parts words.
+_INNER = (*(f"{_TEXT}{name}" for name in ("note", "p", "h")), *_GONE)
+_PARTING = tuple(f"{_TEXT}{name}" for name in ("s", "tab", "line-break"))
 _PARENT, _PROPERTIES = f"{_STYLE}parent-style-name", f"{_STYLE}text-properties"
 _DISPLAY = f"{_TEXT}display"
 #: How many styles are looked at of those that one is based on, for what they hide.
@@ -54,8 +58,10 @@ _WHOLE = {
 
 
 def emphasized(root: Element, *others: Element) -> Iterator[Loss]:
-    """The paragraphs of a text that are emphasized as a whole, by its styles or those of other parts."""
-    styles = Styles("paragraph", *others, root)
+    """The paragraphs of a text that are emphasized by its styles or those of other parts, but the words in them that are
+    plain by styles of their own.
+    """
+    styles, words = (Styles(family, *others, root) for family in ("paragraph", "text"))
     gone = {
         id(each) for tag in _GONE for part in root.iter(tag) for each in part.iter()
     }
@@ -63,10 +69,35 @@ def emphasized(root: Element, *others: Element) -> Iterator[Loss]:
         emphasis = styles.emphasis(paragraph.get(f"{_TEXT}style-name", ""))
         if id(paragraph) in gone or not _is_any(emphasis, _WHOLE):
             continue
-        # a note in it has paragraphs, which may have notes
-        front = islice((each[:_FRONT] for each in paragraph.itertext()), _FRONT)
-        if words := plain("".join(front).replace("\n", " "))[:_SHOWN]:
-            yield Loss(LossKind.EMPHASIS, words, words)
+        for run in _runs(islice(_texts(paragraph, emphasis, words), _FRONT)):
+            if shown := plain(run.replace("\n", " "))[:_SHOWN]:
+                yield Loss(LossKind.EMPHASIS, shown, shown)
+
+
+def _runs(texts: Iterable[tuple[str, bool]]) -> Iterator[str]:
+    """Texts that are emphasized, with blanks between them."""
+    run = ""
+    for text, is_emphasized in texts:
+        if text.strip() and not is_emphasized:
+            yield run
+            run = ""
+        else:
+            run += text[:_FRONT]
+    yield run
+
+
+def _texts(
+    element: Element, emphasis: Mapping[str, str], words: "Styles"
+) -> Iterator[tuple[str, bool]]:
+    """The texts of a paragraph, without those of others in it, and whether each is emphasized."""
+    is_emphasized = _is_any(emphasis, _WHOLE)
+    yield " " if element.tag in _PARTING else element.text or "", is_emphasized
+    for child in element:
+        if child.tag not in _INNER:
+            own = words.emphasis(child.get(f"{_TEXT}style-name", ""))
+            its = {**emphasis, **own} if child.tag == _SPAN and own else emphasis
+            yield from _texts(child, its, words)
+        yield child.tail or "", is_emphasized
 
 
 def hiding(*roots: Element) -> Iterator[str]:
