@@ -1,6 +1,6 @@
 """What is pasted where print is typed: text in HTML alone, files, and what has no text."""
 
-from collections.abc import Callable
+from collections.abc import Callable, Iterator
 from pathlib import Path
 
 import pytest
@@ -10,6 +10,7 @@ from PyQt6.QtWidgets import QApplication, QDialog, QLineEdit, QWidget
 
 from scribe.window import dialogs
 from scribe.window.desk import Desk
+from scribe.window.dragged import Dragged
 from scribe.window.fields import Print
 
 from conftest import Answers
@@ -242,16 +243,26 @@ ASKED: dict[str, Callable[[QWidget], object]] = {
         over, "Change", ("&Words:", "&New ones:"), ("", "here"), ()
     ),
     "a folder": lambda over: dialogs.folder(over, "Export", "The folder:", "here"),
+    "a file": lambda over: dialogs.file_to_read(over, "Import", Path("here"), ""),
+    "a file to write": lambda over: dialogs.file_to_write(over, "Proof", Path("here")),
+    "a new file": lambda over: dialogs.new_file(over, "New", Path("here")),
+    "a font": lambda over: dialogs.font(over, "Font", over.font()),
 }
 
 
+@pytest.fixture
+def dragged(application: QApplication) -> Iterator[None]:
+    """What is dragged is copied, as in the application of the window."""
+    its = Dragged(application)
+    yield
+    application.removeEventFilter(its)
+
+
+@pytest.mark.usefixtures("dragged")
 @pytest.mark.parametrize("is_copied", [True, False])
 @pytest.mark.parametrize("ask", ASKED.values(), ids=ASKED.keys())
 def test_what_is_dragged_into_a_line_of_a_dialog_is_copied_or_isnt_taken(
-    desk: Desk,
-    application: QApplication,
-    ask: Callable[[QWidget], object],
-    is_copied: bool,
+    application: QApplication, ask: Callable[[QWidget], object], is_copied: bool
 ) -> None:
     data, actions, found = QMimeData(), Qt.DropAction, list[str]()
     data.setText("far")
@@ -263,27 +274,30 @@ def test_what_is_dragged_into_a_line_of_a_dialog_is_copied_or_isnt_taken(
 
     def drag() -> None:
         dialog = application.activeModalWidget()
-        if not isinstance(dialog, QDialog):
+        if not isinstance(dialog, QDialog) or dialog.windowHandle() is None:
             QTimer.singleShot(10, drag)
             return
-        line = dialog.findChildren(QLineEdit)[-1]
-        assert isinstance(line, QLineEdit)
+        parts = dialog.findChildren(QLineEdit)
+        lines = [e for e in parts if isinstance(e, QLineEdit) and e.isVisible()]
+        line = lines[-1]
+        at, before = line.mapTo(dialog, QPoint(1, line.height() // 2)), line.text()
         events: list[QDropEvent] = [
-            QDragEnterEvent(QPoint(1, 8), offered, data, *hands),
-            QDragMoveEvent(QPoint(1, 8), offered, data, *hands),
-            QDropEvent(QPointF(1, 8), offered, data, *hands),
+            QDragEnterEvent(at, offered, data, *hands),
+            QDragMoveEvent(at, offered, data, *hands),
+            QDropEvent(QPointF(at), offered, data, *hands),
         ]
         for event in events:
-            application.sendEvent(line, event)
+            application.sendEvent(dialog.windowHandle(), event)
             is_copy = event.dropAction() == actions.CopyAction
-            taken.append((event.isAccepted(), is_copy))
-        found.append(line.text())
+            taken.append((event.isAccepted(), event.isAccepted() and is_copy))
+        found.extend((before, line.text()))
         dialog.reject()
 
     QTimer.singleShot(0, drag)
-    assert ask(desk.window) is None
+    assert ask(QWidget()) is None
     assert taken == [(is_copied, is_copied)] * 3
-    assert found == ["farhere" if is_copied else "here"]
+    before, after = found
+    assert after == (f"far{before}" if is_copied else before)
 
 
 TOO_MUCH = (

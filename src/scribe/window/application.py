@@ -30,6 +30,7 @@ from scribe.window.choosing import chosen_book
 from scribe.window.contrast import Contrast
 from scribe.window.desk import Desk
 from scribe.window.dialogs import choice
+from scribe.window.dragged import Dragged
 from scribe.window.held import Held
 from scribe.window.window import title_of
 from scribe.words.links import followed
@@ -79,6 +80,7 @@ class Application:
         self._qt = QApplication(sys.argv[:1])
         self._qt.setApplicationName("braildesk")
         self._qt.setDesktopFileName("braildesk-desktop")
+        self._dragged = Dragged(self._qt)
         self._contrast = Contrast(self._qt)
         self._contrast.follow()
         self._fault: BaseException | None = None

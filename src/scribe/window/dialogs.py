@@ -16,7 +16,7 @@ from PyQt6.QtCore import (
     Qt,
     QTimer,
 )
-from PyQt6.QtGui import QDropEvent, QFocusEvent, QFont, QInputMethodEvent, QKeyEvent
+from PyQt6.QtGui import QFocusEvent, QFont, QInputMethodEvent, QKeyEvent
 from PyQt6.QtWidgets import (
     QApplication,
     QCheckBox,
@@ -37,14 +37,7 @@ from PyQt6.QtWidgets import (
 
 from braildesk.text.characters import is_shown, visible
 
-from scribe.window.fields import (
-    ENTER,
-    Field,
-    is_letter,
-    lines_of,
-    stays_chosen,
-    take_copy,
-)
+from scribe.window.fields import ENTER, Field, is_letter, lines_of, stays_chosen
 from scribe.window.worker import Worker
 
 Result = TypeVar("Result")
@@ -353,8 +346,6 @@ def _line(
     dialog.setLabelText(_whole(asked))
     dialog.setTextValue(first)
     _fit(dialog, _WIDTH)
-    for line in _within(dialog, QLineEdit):
-        _Copied(line)
 
     def typed(line: str) -> None:
         if changed is not None:
@@ -363,26 +354,6 @@ def _line(
     dialog.textValueChanged.connect(typed)
     with _back_to(over, dialog):
         return _in_a_line(dialog.textValue()) if dialog.exec() else None
-
-
-class _Copied(QObject):
-    """Has a line take a copy of what is dragged into it, so that its program keeps that."""
-
-    def __init__(self, line: QLineEdit) -> None:
-        super().__init__(line)
-        self._line = line
-        line.installEventFilter(self)
-
-    def eventFilter(self, to: QObject | None, event: QEvent | None) -> bool:
-        """Says so from the moment that it comes: the line would take the move that is proposed."""
-        if not isinstance(event, QDropEvent) or event.source() is self._line:
-            return False
-        if event.type() == QEvent.Type.Drop and not take_copy(event):
-            return True
-        self._line.event(event)
-        if event.isAccepted():
-            take_copy(event)
-        return True
 
 
 def _in_a_line(typed: str) -> str:
@@ -466,7 +437,6 @@ def fields(
     for words, line in zip(asked, lines):
         label = QLabel(words)
         label.setBuddy(line)
-        _Copied(line)
         column.addWidget(label)
         column.addWidget(line)
         line.textChanged.connect(lambda _: changed(typed()))
@@ -530,7 +500,6 @@ def folder(over: QWidget, title: str, asked: str, first: str) -> str | None:
     dialog.setWindowTitle(title)
     line, label = QLineEdit(first), QLabel(asked)
     label.setBuddy(line)
-    _Copied(line)
     line.selectAll()
 
     def look() -> None:
