@@ -301,6 +301,16 @@ def test_with_nothing_to_take_back_a_correction_is_named_only_where_there_is_one
     assert desk.window.message.text == nothing
 
 
+def test_a_row_that_others_than_hands_choose_meanwhile_is_not_the_one_in_which_is_typed(
+    desk: Desk, application: QApplication
+) -> None:
+    table = desk.window.table
+    other = desk.window.model.index(1, 0)
+    desk.acting(lambda: table.setCurrentIndex(other))
+    application.processEvents()
+    assert (table.currentIndex().row(), desk.row, desk.number) == (0, 0, 1)
+
+
 def test_what_others_changed_during_an_export_is_said(
     desk: Desk, tmp_path: Path, monkeypatch: pytest.MonkeyPatch
 ) -> None:

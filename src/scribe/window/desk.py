@@ -629,6 +629,10 @@ class Desk:
         """Another paragraph was chosen in the table: what was typed is kept first."""
         if self._is_showing or not there.isValid():
             return
+        if self._is_acting:
+            # what is typed later goes where it is said to
+            QTimer.singleShot(0, self._choose_again)
+            return
         number = self.contents.paragraphs[there.row()].id
 
         def act() -> None:
