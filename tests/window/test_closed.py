@@ -273,6 +273,26 @@ def test_of_what_is_typed_in_a_closed_book_it_is_not_said_that_enter_keeps_it(
     desk.act("give_up")
 
 
+def test_that_others_changed_a_book_before_it_was_opened_again_is_said_to_bar_taking_back(
+    desk: Desk, moon: Path
+) -> None:
+    desk.do(requests.Mark(2, 0, 1, ""))
+    os.kill(desk.book.pid, signal.SIGKILL)
+    moon.rename(there := moon.with_name("elsewhere"))
+    desk.act("strike")
+    assert desk.is_closed
+    there.rename(moon)
+    with Session(moon) as session:
+        session.set_begins_volume(2, True)
+    desk.act("open_again")
+    assert desk.window.message.text == (
+        "The book is open again, at version 7. Ctrl+Z no longer takes back what was done before it"
+        " was opened again."
+    )
+    desk.act("take_back")
+    assert desk.window.message.text.startswith("There is nothing that Ctrl+Z could")
+
+
 def test_lines_that_were_not_typed_yet_wait_if_the_window_is_ended(
     desk: Desk, asked: dict[str, int], monkeypatch: pytest.MonkeyPatch
 ) -> None:

@@ -311,8 +311,9 @@ def test_a_row_that_others_than_hands_choose_meanwhile_is_not_the_one_in_which_i
     assert (table.currentIndex().row(), desk.row, desk.number) == (0, 0, 1)
 
 
+@pytest.mark.parametrize("is_done", [False, True])
 def test_what_others_changed_during_an_export_is_said(
-    desk: Desk, tmp_path: Path, monkeypatch: pytest.MonkeyPatch
+    desk: Desk, tmp_path: Path, monkeypatch: pytest.MonkeyPatch, is_done: bool
 ) -> None:
     def changed(job: Job, console: Console) -> None:
         with Session(job.book) as session:
@@ -325,12 +326,17 @@ def test_what_others_changed_during_an_export_is_said(
     )
     monkeypatch.setattr(dialogs, "folder", lambda *_: str(tmp_path))
     monkeypatch.setattr("scribe.window.files.export_in_words", changed)
+    if is_done:
+        desk.do(requests.Mark(2, 0, 1, ""))
     desk.act("export")
+    left = " Ctrl+Z no longer takes back what was done before it was opened again."
     assert reported == [
-        "Another program changed the book meanwhile. It is at version 6 now, and is shown as it"
-        " is.",
+        f"Another program changed the book meanwhile. It is at version {6 + is_done} now, and is"
+        f" shown as it is.{left * is_done}",
         "The volumes are written.",
     ]
+    desk.act("take_back")
+    assert desk.window.message.text.startswith("There is nothing that Ctrl+Z could")
 
 
 def test_what_takes_long_is_cancelled_by_its_dialog(desk: Desk) -> None:

@@ -21,7 +21,7 @@ from braildesk.workshop import MayNotLast
 
 from scribe.window import dialogs
 from scribe.window.book import Contents
-from scribe.window.desk import Desk
+from scribe.window.desk import LEFT, Desk
 from scribe.window.dialogs import IsStopped, Say
 from scribe.words.console import Console, Heard
 from scribe.words.deeds import changed_between
@@ -224,7 +224,7 @@ class Files:
         That gives how many paragraphs the book has by it, if that is known, and if it is cut short
         they are so many. By then it is known what an earlier part of them lacked.
         """
-        desk, before = self.desk, self.desk.contents
+        desk, before, deeds = self.desk, self.desk.contents, self.desk.book.deeds
         problems, done = list[Undecided](), [f"{title}: nothing was done."]
         desk.unwatch()
 
@@ -233,10 +233,10 @@ class Files:
             desk.book.close()
             done.clear()
             console = _Beside(BytesIO(), heard, heard, _until(is_stopped), tell=say)
-            count = _told(act, console, problems, cut)
+            its = _told(act, console, problems, cut), lacking
             done.extend(heard.getvalue().splitlines())
-            now = desk.book.imported(before, count, lacking)
-            return now, (*_changed(before, now, count, lacking), *done)
+            now = desk.book.imported(before, *its)
+            return now, (*_changed(before, now, *its, bool(deeds)), *done)
 
         try:
             contents, lines = dialogs.long(desk.window, desk.work, title, whole)
@@ -287,10 +287,13 @@ def _changed(
     now: Contents,
     count: int | None,
     lacking: Sequence[Command[Any]],
+    are_deeds: bool,
 ) -> tuple[str, ...]:
-    """What is said if others changed the book, too."""
+    """What is said if others changed the book, too, and if something isn't taken back by that."""
     books, commands = (before.paragraphs, now.paragraphs), now.version - before.version
-    return changed_between(*books, now.version, commands, count, lacking)
+    found = changed_between(*books, now.version, commands, count, lacking)
+    is_left = are_deeds or count != 0
+    return tuple(f"{each} {LEFT}" if is_left else each for each in found)
 
 
 def _told(

@@ -5,7 +5,7 @@ from PyQt6.QtWidgets import QApplication
 from braildesk.text.cells import braille_ascii
 
 from scribe.window import dialogs
-from scribe.window.desk import NO_PARAGRAPH, Desk
+from scribe.window.desk import LEFT, NO_PARAGRAPH, Desk
 from scribe.window.menus import key_lines
 from scribe.words.pages import NoSize, described, typed_page_size
 from scribe.words.paragraph import counted
@@ -134,6 +134,8 @@ class View:
         if not desk.is_closed:
             desk.say("The book is open.")
             return
+        deeds = desk.book.deeds
         more = desk.taken_again(desk.work.result(desk.book.opened_again))
-        version = desk.contents.version
-        desk.say(f"The book is open again, at version {version:,}. {more}".rstrip())
+        left = LEFT if deeds and not desk.book.deeds else ""
+        at = f"The book is open again, at version {desk.contents.version:,}."
+        desk.say(" ".join(filter(None, (at, left, more))))
