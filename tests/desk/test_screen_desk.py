@@ -21,7 +21,7 @@ from scribe.screen.background import ActionResult, done_in_background
 from scribe.screen.desk import Desk
 from scribe.screen.field import Field, Purpose
 from scribe.screen.state import Pages, Size
-from scribe.words.links import followed
+from scribe.words.links import followed, name_of
 from scribe.words.preview import Preview, Tables
 from sitting import Sat, Sit
 from stand_in import KEPT, KILL_PROGRAM
@@ -70,6 +70,18 @@ def test_a_link_of_another_user_by_which_the_book_is_named_is_said_first(
     assert state.message.startswith(
         f"“{link}” is a link of another user, and leads to “{moon}”."
     )
+
+
+def test_a_book_to_which_its_link_leads_no_more_is_named_by_its_own_path(
+    moon: Path,
+) -> None:
+    link = moon.with_name("link")
+    link.symlink_to(moon)
+    book = followed(link)
+    assert (name_of(book), name_of(followed(moon))) == ("link", moon.name)
+    link.unlink()
+    link.symlink_to("another")
+    assert name_of(book) == f"“{moon}”"
 
 
 def test_the_book_is_shown_as_it_is_opened(reader: Sat) -> None:

@@ -1,6 +1,7 @@
 """A window that is closed or ended while something is typed: what is said of that is so."""
 
 import os
+import shutil
 import signal
 from collections.abc import Callable, Iterator, Sequence
 from pathlib import Path
@@ -670,3 +671,19 @@ def test_a_word_that_an_input_method_still_holds_is_kept_with_what_was_typed(
     type_word("xin")
     assert desk.window.close()
     assert prints_of(desk)[0] == "xinxinThe Moon"
+
+
+def test_a_window_says_at_the_end_which_book_it_had_where_its_link_leads_to_another(
+    moon: Path, at: Open
+) -> None:
+    link = moon.with_name("link")
+    link.symlink_to(moon)
+    window = at(link)
+    link.unlink()
+    link.symlink_to(shutil.copyfile(moon, moon.with_name("other.braildesk")))
+    window.press("F2")
+    window.focus("text", "Print")
+    window.type("A ")
+    window.press("Ctrl+q")
+    shown, _ = window.program.communicate(timeout=120)
+    assert shown.decode() == f"“{moon}” is at version 6.\n"

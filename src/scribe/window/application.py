@@ -33,7 +33,7 @@ from scribe.window.dialogs import choice
 from scribe.window.dragged import Dragged
 from scribe.window.held import Held
 from scribe.window.window import title_of
-from scribe.words.links import followed
+from scribe.words.links import followed, name_of
 from scribe.words.status import Interrupted
 
 # what Qt says before it ends the process because the X server, or the compositor, is gone
@@ -95,8 +95,8 @@ class Application:
 
     @property
     def name(self) -> str:
-        """The name of the book's file."""
-        return self._desk.path.name
+        """The name of the book, as it is by now."""
+        return name_of(self._desk.path)
 
     @property
     def version(self) -> int:
@@ -142,7 +142,7 @@ class Application:
     def tell(self, sentence: str) -> None:
         """Shows a sentence in the place of a book that isn't open, until it is closed."""
         with _ended_by_signals():
-            title = title_of(self.name)
+            title = title_of(self._desk.path.name)
             choice(self._desk.window, title, visible(sentence), ["&Close"])
 
     def run(self) -> None:

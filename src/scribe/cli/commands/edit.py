@@ -6,6 +6,7 @@ import sys
 from argparse import ArgumentParser, Namespace
 from dataclasses import replace
 from io import TextIOWrapper
+from pathlib import Path
 from typing import TYPE_CHECKING
 
 from braildesk import Lost
@@ -19,6 +20,7 @@ from scribe.prompt.typed_lines import are_typed
 from scribe.words import encoding
 from scribe.words.aftermath import tell_end
 from scribe.words.console import Console
+from scribe.words.links import name_of
 from scribe.words.status import Interrupted, Status, Stop, not_loaded
 from scribe.words.typed import path_word
 
@@ -83,20 +85,20 @@ def run(arguments: Namespace, console: Console) -> Status:
     _take_encoding(of_terminal)
     state = desk.first_state(Size(columns, lines), arguments.by, is_ascii)
     state = replace(state, page_size=page_size_of(arguments), encoding=of_terminal)
-    return _shown(desk, Screen(desk, state), arguments.file.name, console)
+    return _shown(desk, Screen(desk, state), arguments.file, console)
 
 
-def _shown(desk: "Desk", screen: "Screen", name: str, console: Console) -> Status:
+def _shown(desk: "Desk", screen: "Screen", book: Path, console: Console) -> Status:
     """Shows the book until it is left. Whatever ends the screen, what can't be kept is said."""
     try:
         screen.run()
     except Exception:
         console.say(*screen.unseen)
         raise
-    return _end(desk, screen, name, console)
+    return _end(desk, screen, book, console)
 
 
-def _end(desk: "Desk", screen: "Screen", name: str, console: Console) -> Status:
+def _end(desk: "Desk", screen: "Screen", book: Path, console: Console) -> Status:
     """Closes the book, and says how its session ended, if somebody is there to read it."""
     try:
         desk.close()
@@ -116,7 +118,7 @@ def _end(desk: "Desk", screen: "Screen", name: str, console: Console) -> Status:
         is_said = not screen.unseen or screen.unseen[-1] in lines_said
         console.say(*lines_said, *(() if is_said else screen.unseen))
         return Status.FAILED
-    tell_end(console, name, screen.state.version, desk.strayed)
+    tell_end(console, name_of(book), screen.state.version, desk.strayed)
     console.say(*screen.unseen)
     if screen.ended_by is not None:
         raise Interrupted(screen.ended_by, is_said=True)
