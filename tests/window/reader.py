@@ -40,6 +40,8 @@ _MASKS = {"Shift": 1 << 0, "Ctrl": 1 << 2, "Alt": 1 << 3}
 # how long a state is waited for; a test that holds never waits so long
 PATIENCE_SECONDS = float(os.environ.get("PATIENCE", "120"))
 _PACE_SECONDS = 0.02
+# by how many steps something is dragged, and how many it stays where it is dropped then
+_STEPS = 12
 # the roles of parts that a window has from its front to its end, by names that stay
 _LASTING = ("text", "table")
 
@@ -288,6 +290,20 @@ class Reader:
             x, y = self._at(name, place)
             Atspi.generate_mouse_event(x, y, what)
             _let_events_come()
+
+    def drag(self, start: tuple[int, int], part: Part) -> None:
+        """Drags what is at a place of the screen into the middle of a part, slowly, and drops it there."""
+        at = Atspi.Component.get_extents(part, Atspi.CoordType.SCREEN)
+        stop = at.x + at.width // 2, at.y + at.height // 2
+        Atspi.generate_mouse_event(*start, "abs")
+        Atspi.generate_mouse_event(*start, "b1p")
+        for step in range(1, 2 * _STEPS):
+            x, y = (
+                a + (b - a) * min(step, _STEPS) // _STEPS for a, b in zip(start, stop)
+            )
+            Atspi.generate_mouse_event(x + step % 2, y, "abs")
+            _let_events_come()
+        Atspi.generate_mouse_event(*stop, "b1r")
 
     def _at(self, name: str, place: int) -> tuple[int, int]:
         """Where the front of a character of a field is seen."""

@@ -13,7 +13,8 @@ from scribe.window.desk import Desk
 from scribe.window.dragged import Dragged
 from scribe.window.fields import Print
 
-from conftest import Answers
+from conftest import Answers, Open
+from dragging import PLACE, Source
 from test_whole import prints_of
 
 
@@ -298,6 +299,32 @@ def test_what_is_dragged_into_a_line_of_a_dialog_is_copied_or_isnt_taken(
     assert taken == [(is_copied, is_copied)] * 3
     before, after = found
     assert after == (f"far{before}" if is_copied else before)
+
+
+@pytest.fixture
+def drags() -> Iterator[Callable[[str], Source]]:
+    """Starts another program, from which a text can be dragged, above other windows."""
+    sources: list[Source] = []
+
+    def started(text: str) -> Source:
+        sources.append(Source(text))
+        return sources[-1]
+
+    yield started
+    for each in sources:
+        each.end()
+
+
+def test_another_program_keeps_what_is_dragged_from_it_into_a_dialog_of_qt(
+    moon: Path, at: Open, drags: Callable[[str], Source]
+) -> None:
+    window = at(moon)
+    window.press("Ctrl+i")
+    line = window.first("text", window.dialog("Import a text"))
+    source = drags("far")
+    window.drag(PLACE, line)
+    window.until("what was dragged", lambda: window.text_in(line) == "far")
+    assert source.text == "far"
 
 
 TOO_MUCH = (
