@@ -193,6 +193,19 @@ def test_lines_that_are_dropped_stay_where_they_come_from_and_keep_it_waiting_fo
     assert asked == [["One.", "Two."]]
 
 
+def test_lines_that_are_dropped_as_something_else_begins_are_given_up(
+    desk: Desk,
+) -> None:
+    desk.acting(lambda: desk.window.print.pasted.emit(["One.", "Two.", ""]))
+    assert desk.window.message.text == (
+        "Lines were dropped while something else was being done. The lines aren't in the book."
+        " Ctrl+B brings them back."
+    )
+    (given_up,) = desk.unsent.texts()
+    assert given_up.text == "One.\nTwo."
+    assert prints_of(desk)[0] == "The Moon"
+
+
 @pytest.mark.parametrize("is_file", [False, True])
 @pytest.mark.parametrize("is_copied", [True, False])
 def test_what_is_dragged_is_copied_from_the_first_or_isnt_taken(
@@ -362,3 +375,25 @@ def test_more_than_can_be_typed_is_said_to_be_kept_elsewhere_and_changes_nothing
     pasted(desk, Text="a" * 99_992)
     assert len(desk.window.print.text) == 100_000
     desk.act("give_up")
+
+
+def test_what_is_dropped_and_is_too_much_can_be_brought_back(
+    desk: Desk, application: QApplication
+) -> None:
+    """Qt takes it away from where it was, if it is dropped before this window could answer anything."""
+    field, actions = desk.window.print, Qt.DropAction
+    data, text = QMimeData(), "The sea. " * 12_223
+    data.setText(text)
+    hands = Qt.MouseButton.LeftButton, Qt.KeyboardModifier.NoModifier
+    offered = actions.CopyAction | actions.MoveAction
+    field.dropEvent(QDropEvent(QPointF(2, 8), offered, data, *hands))
+    assert (field.text, desk.draft()) == ("The Moon", None)
+    application.processEvents()
+    assert desk.window.message.text == (
+        f"{TOO_MUCH.format(110_015, 100_000)} The lines aren't in the book. Ctrl+B brings them"
+        " back."
+    )
+    (given_up,) = desk.unsent.texts()
+    lines = given_up.text.split("\n")
+    assert "".join(lines).replace(" ", "") == text.replace(" ", "")
+    assert max(map(len, lines)) <= 4_000

@@ -35,9 +35,10 @@ class Actions:
         self.offer = Offers(desk, typed, files, changing).offer
         desk.window.dropped.connect(files.dropped)
         field = desk.window.print
-        field.pasted.connect(lambda lines: desk.acting(lambda: typed.pasted(lines)))
+        field.pasted.connect(typed.take_lines)
         field.files_pasted.connect(
             lambda paths: desk.acting(lambda: files.pasted(paths))
         )
         field.nothing_pasted.connect(lambda: desk.refuse(NO_TEXT))
         field.too_much_pasted.connect(lambda *found: desk.refuse(too_much(*found)))
+        field.too_much_dropped.connect(typed.keep_dropped)

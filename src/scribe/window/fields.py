@@ -247,8 +247,10 @@ class Print(Field):
     pasted = pyqtSignal(list)
     files_pasted = pyqtSignal(list)
     nothing_pasted = pyqtSignal()
-    #: More was pasted than may be: so many characters, of so many at most.
+    #: More was pasted than may be: so many characters, of so many at most; and these lines if it was
+    #: dropped, which some programs have no more by then.
     too_much_pasted = pyqtSignal(int, int)
+    too_much_dropped = pyqtSignal(list)
 
     def __init__(self) -> None:
         super().__init__("Print", False)
@@ -329,6 +331,8 @@ class Print(Field):
         ):
             if count > most:
                 self.too_much_pasted.emit(count, most)
+                if self._is_dropped:
+                    QTimer.singleShot(0, lambda: self.too_much_dropped.emit(lines))
                 return True
         return False
 

@@ -19,7 +19,7 @@ from scribe.window import dialogs
 from scribe.window.book import Done, NotAll, NothingToTakeBack, ChosenParagraph
 from scribe.window.desk import CLOSED, Desk, New
 from scribe.window.dialogs import IsStopped, Say
-from scribe.window.fields import MOST_OF_ONE
+from scribe.window.fields import MOST_OF_LINES, MOST_OF_ONE
 from scribe.words.deeds import Deed
 from scribe.words.drafts import (
     beside_struck,
@@ -140,10 +140,7 @@ class Typed:
         desk, text, most = self.desk, self.desk.typed_text(), limits.PRINT_CHARACTERS
         if not desk.is_typed() or len(desk.print_of(text)) <= most:
             return False
-        lines, rest = [], text
-        while rest:
-            first, rest = parted(rest, most)
-            lines.append(first)
+        lines = _pieces(text)
         if len(lines) < 2:
             return False
         asked = (
@@ -291,6 +288,29 @@ class Typed:
         else:
             desk.say(f"Given up. The book is as it was. {desk.put_by(draft)}")
 
+    def take_lines(self, lines: Sequence[str]) -> None:
+        """Asks about lines that were pasted or dropped, unless something else is being done by then."""
+        desk = self.desk
+        if desk.is_acting:
+            said = "Lines were dropped while something else was being done."
+            desk.say_after(f"{said} {self._put_lines_by(lines)}")
+        else:
+            desk.acting(lambda: self.pasted(lines))
+
+    def keep_dropped(self, lines: Sequence[str]) -> None:
+        """Keeps lines that were dropped and are too much, as what was given up, where there is room.
+
+        A program that was told of no copy yet takes them away from where they were, by its own guess.
+        """
+        desk = self.desk
+        if sum(map(len, lines)) > MOST_OF_LINES:
+            return
+        look = lambda: [each for line in lines for each in _pieces(line) if each]
+        pieces = desk.aside.result(look, False)
+        if pieces:
+            said = self._put_lines_by(pieces)
+            (desk.say_after if desk.is_acting else desk.say_too)(said)
+
     def pasted(self, lines: Sequence[str]) -> None:
         """Asks what lines are that were pasted where the caret is.
 
@@ -330,16 +350,16 @@ class Typed:
         if answer == 1 and count > MOST_OF_ONE:
             raise Stop(too_much(count, MOST_OF_ONE))
         if answer == 2:
-            self._put_lines_by(lines)
+            desk.say(self._put_lines_by(lines))
 
-    def _put_lines_by(self, lines: Sequence[str]) -> None:
-        """Gives up pasted lines, as paragraphs."""
+    def _put_lines_by(self, lines: Sequence[str]) -> str:
+        """Gives up pasted lines, as paragraphs, and says so."""
         desk = self.desk
         table, text = desk.table_of_typed(), "\n".join(filter(str.strip, lines))
         draft = Draft(Aim.AFTER, desk.number, table, "", text)
         fault = desk.aside.result(lambda: desk.unsent.put_by(draft), False)
         how = fault or "Ctrl+B brings them back."
-        desk.say(f"The lines aren't in the book. {how}")
+        return f"The lines aren't in the book. {how}"
 
     def _is_before(self, front: str, lines: Sequence[str], back: str) -> bool:
         """Whether pasted lines are before a whole paragraph, which stays as it is, with its marks."""
@@ -475,6 +495,15 @@ class Typed:
             desk.beside = left
             with suppress(NotKept):
                 desk.unsent.keep(left)
+
+
+def _pieces(text: str) -> list[str]:
+    """A text in pieces, of which each may be a paragraph."""
+    pieces, rest = [], text
+    while rest:
+        first, rest = parted(rest, limits.PRINT_CHARACTERS)
+        pieces.append(first)
+    return pieces
 
 
 def too_much(count: int, most: int) -> str:
