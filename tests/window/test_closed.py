@@ -42,7 +42,8 @@ def stays(monkeypatch: pytest.MonkeyPatch) -> list[str]:
         asked.append(said)
         return 1
 
-    monkeypatch.setattr("scribe.window.desk.choice", choice)
+    for module in ("desk", "dialogs"):
+        monkeypatch.setattr(f"scribe.window.{module}.choice", choice)
     return asked
 
 
@@ -62,9 +63,14 @@ def test_a_text_that_can_be_kept_nowhere_is_said_to_be_lost_with_the_window(
     desk.window.print.setPlainText("The Moon")
 
 
+@pytest.mark.parametrize("typed", ["\r", "clouds\r\r"])
 @pytest.mark.parametrize("is_given_up", [True, False])
-def test_enter_closes_no_window_with_which_a_text_is_lost(
-    desk: Desk, application: QApplication, tmp_path: Path, is_given_up: bool
+def test_no_enter_and_no_letter_closes_a_window_with_which_a_text_is_lost(
+    desk: Desk,
+    application: QApplication,
+    tmp_path: Path,
+    is_given_up: bool,
+    typed: str,
 ) -> None:
     _without_folder(tmp_path)
     if is_given_up:
@@ -82,13 +88,17 @@ def test_enter_closes_no_window_with_which_a_text_is_lost(
             return
         asked.append(box.text())
         kind, none = QEvent.Type.KeyPress, Qt.KeyboardModifier.NoModifier
-        application.sendEvent(box, QKeyEvent(kind, Qt.Key.Key_Return, none, "\r"))
+        for each in typed:
+            key = Qt.Key.Key_Return if each == "\r" else Qt.Key(ord(each.upper()))
+            application.sendEvent(box, QKeyEvent(kind, key, none, each))
 
     QTimer.singleShot(0, enter)
     assert not desk.window.close()
     (said,) = asked
     assert "lost if the window is closed." in said
-    assert len(desk.unsent.unkept) == is_given_up
+    more = [typed.strip()] if len(typed) > 1 else []
+    assert [*desk.unsent.unkept] == more + ["It rose."] * is_given_up
+    assert all(each in desk.window.message.text for each in more)
     if not is_given_up:
         assert desk.window.print.text == "#The Moon"
         desk.window.print.setPlainText("The Moon")

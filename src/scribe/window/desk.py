@@ -301,6 +301,10 @@ class Desk:
             self._is_acting = False
             if self._watched is not None:
                 self._watched.setEnabled(True)
+        self._say_meanwhile()
+
+    def _say_meanwhile(self) -> None:
+        """Says what was given up since something else was shown or asked."""
         if self._meanwhile:
             # what is given up doesn't wait
             self.keep_draft(self.draft())
@@ -994,7 +998,9 @@ class Desk:
 
         self.aside.latest("held", lambda: self.unsent.keep_unread(held), look)
 
-    def offered(self, title: str, asked: str, answers: Sequence[str]) -> int:
+    def offered(
+        self, title: str, asked: str, answers: Sequence[str], *by_enter: int
+    ) -> int:
         """The answer to what no key has asked for; a text that was typed there is given up."""
 
         def keep(text: str) -> None:
@@ -1003,7 +1009,7 @@ class Desk:
             self._keep_unread(self._at_offer)
 
         self._is_offering = True
-        answer = offer(self.window, title, asked, answers, keep)
+        answer = offer(self.window, title, asked, answers, keep, *by_enter)
         if self.is_ending:
             return answer
         self._is_offering = False
@@ -1408,10 +1414,12 @@ class Desk:
         finally:
             self._is_acting = False
         if not may_close and not self.is_left():
+            self._say_meanwhile()
             return False
         if self.unsent.unkept_said:
             self.unsay(visible(self.aside.result(self.unsent.keep_again, False)))
         if self.unsent.unkept and not self._is_given_up(self.unsent.unkept):
+            self._say_meanwhile()
             return False
         self.held.end()
         return True
@@ -1432,7 +1440,8 @@ class Desk:
                 "Ctrl+B brings one back.",
             )
         said = f"{what} can't be kept elsewhere after being given up. {goes}. {how}"
-        return choice(self.window, "Not kept", said, _OF_CLOSING, _STAYS) == 0
+        # nor does a letter close it, which hands may type on that asked for nothing
+        return self.offered("Not kept", said, _OF_CLOSING, _STAYS) == 0
 
     def is_left(self) -> bool:
         """Asks whether the window goes while something is typed that wasn't kept."""
@@ -1442,6 +1451,6 @@ class Desk:
             return choice(self.window, "Closed", said, _OF_CLOSING) == 0
         if not self.is_waiting():
             said = f"{said}\n\n{_ONLY_HERE}"
-            return choice(self.window, "Not kept", said, _OF_CLOSING, _STAYS) == 0
+            return self.offered("Not kept", said, _OF_CLOSING, _STAYS) == 0
         waits = "What is typed waits, and is offered when the book is opened again."
         return choice(self.window, "Not kept", f"{said}\n\n{waits}", _OF_CLOSING) == 0

@@ -221,6 +221,7 @@ def offer(
     sentence: str,
     answers: Sequence[str],
     typed: Callable[[str], None],
+    *by_enter: int,
 ) -> int:
     """Asks what no key has asked for: a text that is typed on there is no answer, and is handed on.
 
@@ -231,7 +232,7 @@ def offer(
     assert application is not None
     application.installEventFilter(blind)
     try:
-        return choice(over, title, sentence, answers)
+        return choice(over, title, sentence, answers, *by_enter)
     finally:
         application.removeEventFilter(blind)
 
