@@ -537,6 +537,14 @@ def test_thousands_of_places_are_counted_as_other_things_are() -> None:
     )
 
 
+def test_of_a_place_in_a_struck_paragraph_it_is_said_that_it_is_struck() -> None:
+    its = Proposal(2, "The tide", Span(4, 8), "sea", is_struck=True)
+    assert proposal_lines(its, 1, 2, 80) == [
+        "Place 1 of 2, paragraph 2, struck: The [tide]",
+        "After: The [sea]",
+    ]
+
+
 @pytest.mark.parametrize(
     "ends, named",
     [

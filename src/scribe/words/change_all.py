@@ -189,7 +189,8 @@ def proposal_lines(
     found: Proposal, nth: int, count: int, width: int, what: str = ""
 ) -> list[str]:
     """A place as it is and as it would be, after what is said of it."""
-    head = f"Place {nth:,} of {count:,}{what}, paragraph {found.paragraph}: "
+    struck = ", struck" if found.is_struck else ""
+    head = f"Place {nth:,} of {count:,}{what}, paragraph {found.paragraph}{struck}: "
     after = "After: "
     now, came = found.after
     place = found.place
