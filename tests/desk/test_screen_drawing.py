@@ -5,18 +5,28 @@ from dataclasses import replace
 import pytest
 
 from braildesk import Mark, Paragraph, Style
+from braildesk.desk.change_all import Replacement
 from braildesk.desk.highlighting import Highlighted
 from braildesk.desk.readings import ParagraphReading
 from braildesk.text.spans import Span
 from braildesk.text.wrapping import columns
 
+from scribe.screen.actions import ChangePlaces
 from scribe.screen.desk import with_preview
 from scribe.screen.drawing import Drawing, draw
 from scribe.screen.field import Field, Purpose
 from scribe.screen.keys import step
 from scribe.screen.lines import HIGHLIGHTED, MARKED, rows
 from scribe.screen.question_rows import moved
-from scribe.screen.state import Opening, Pages, Pane, Question, Size, State
+from scribe.screen.state import (
+    Opening,
+    Pages,
+    Pane,
+    Question,
+    Size,
+    State,
+    Target,
+)
 from scribe.words.preview import Preview
 
 
@@ -591,3 +601,41 @@ def test_the_braille_of_what_was_typed_comes_under_no_other_text() -> None:
         replace(asked, typed=Field(Purpose.AFTER, "It", 2)),
     ):
         assert with_preview(other, asked, preview) == other
+
+
+PLACE = (
+    "Place 1 of 2, paragraph 1:",
+    "[The] moon is far away.",
+    "After: [Our] moon is far away.",
+)
+CHANGED = "Paragraph 3 is changed. 1 more place."
+
+
+@pytest.mark.parametrize(
+    "lines, said, seen",
+    [
+        (6, "", ["2 places of “The”, to be “Our”. Lines 1", "to 3 of 5.", *PLACE]),
+        (6, CHANGED, [*PLACE, "", CHANGED]),
+        (5, CHANGED, [*PLACE, CHANGED]),
+        (4, "", [*PLACE]),
+        (4, CHANGED, [*PLACE, CHANGED]),
+        (3, "", [*PLACE]),
+        (3, CHANGED, [*PLACE[:2], CHANGED]),
+        (2, "", [*PLACE[:2]]),
+        (2, CHANGED, [CHANGED]),
+        (1, CHANGED, [CHANGED]),
+    ],
+)
+def test_on_few_lines_it_is_seen_what_would_be_changed(
+    lines: int, said: str, seen: list[str]
+) -> None:
+    listed = (*PLACE, "Place 2 of 2, paragraph 2: [The] Tides", "After: [Our] Tides")
+    targets = (*(Target(1, nth=0),) * 3, *(Target(2, nth=1),) * 2)
+    offer = ChangePlaces(Replacement("The", "Our"), ())
+    title = "2 places of “The”, to be “Our”."
+    pages = Pages(title, listed, place=0, targets=targets, offer=offer)
+    drawing = draw(replace(STATE, size=Size(40, lines), pages=pages, message=said))
+    assert drawing.texts()[-len(seen) :] == seen
+    assert len(drawing.lines) == lines
+    cursor = PLACE[0] if PLACE[0] in seen else CHANGED
+    assert drawing.texts()[drawing.cursor[0]] == cursor

@@ -219,15 +219,28 @@ def _rule(state: State) -> Line:
 
 def _pages(state: State, pages: Pages, room: int) -> Area:
     """Lines that are looked at in place of the book, in the room that is left by what is said."""
+    lines: list[Line]
     size = Size(state.size.columns, room + pager.OTHERS)
     found = pager.seen(pager.fitted(pages, size), size)
-    lines: list[Line] = [
+    its = pager.entry(pages, size) if room and _is_of_few(state) else ()
+    if len(its) > len(found.head) + len(found.lines) - found.cursor:
+        # what would be changed covers what is looked at, and the title
+        rows = its[: room + 1]
+        lines = [(Run(row, PLAIN if n else CHOSEN),) for n, row in enumerate(rows)]
+        return Area([*lines, *filled([], room - len(lines))], (0, 0))
+    lines = [
         (Run(line, CHOSEN if place == found.cursor else PLAIN),)
         for place, line in enumerate([*found.head, *found.lines])
     ]
     # that of the cursor, if there is no room for what is above it
     top = max(0, found.cursor + 1 - room)
     return Area(filled(lines[top:], room), (max(0, found.cursor - top), 0))
+
+
+def _is_of_few(state: State) -> bool:
+    """Whether places that may be changed are looked at on few rows."""
+    pages, is_few = state.pages, state.size.lines < _FEW_LINES
+    return pages is not None and isinstance(pages.offer, ChangePlaces) and is_few
 
 
 def _bottom(state: State) -> Area:
@@ -334,6 +347,7 @@ def _below(state: State, room: int, count: int) -> list[str]:
     if state.pages:
         # on two lines there is room for what is looked at, or for what is said
         free = min(pager.SAID, state.size.lines - 2) - len(said)
+        free = 0 if _is_of_few(state) else free
         return [*[""] * free, *said]
     rest = max(0, room - least - len(said))
     # one row of the marks is seen beside whatever is said

@@ -102,6 +102,17 @@ def target(pages: Pages, size: Size) -> Target | None:
     return pages.targets[number] if 0 <= number < len(pages.targets) else None
 
 
+def entry(pages: Pages, size: Size) -> tuple[str, ...]:
+    """What is seen of the entry of the cursor, from the cursor on; nothing if it is on the head."""
+    number = _number(pages, size)
+    if number < 0:
+        return ()
+    nth = pages.targets[number].nth
+    its = (n for n, each in enumerate(pages.targets) if each.nth == nth)
+    up_to = replace(pages, lines=pages.lines[: max(its) + 1])
+    return _wrapped(up_to, size)[pages.place :]
+
+
 def fitted(pages: Pages, size: Size) -> Pages:
     """The lines with that of the cursor still seen on a screen of another size."""
     if pages.place == HEAD_LINE:
