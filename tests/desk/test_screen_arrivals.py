@@ -227,6 +227,14 @@ def test_a_line_before_the_screen_is_there_is_kept_and_answers_no_offer(
     assert [each.text for each in Drafts(moon).given_up()] == ["no"]
 
 
+def test_a_line_before_the_screen_is_there_is_kept_and_not_said_to_be_pasted(
+    moon: Path, at: Open
+) -> None:
+    terminal = pressed_before(moon, at, "strike bits.\r")
+    terminal.wait("Keys that come all at once are taken as a text")
+    assert [each.text for each in Drafts(moon).given_up()] == ["strike bits."]
+
+
 def test_a_text_whose_first_letter_answers_no_offer_is_kept_from_that_letter_on(
     moon: Path, at: Open
 ) -> None:

@@ -290,6 +290,18 @@ def test_text_that_is_pasted_where_none_is_typed_comes_back_as_a_paragraph(
     assert sat.state.version == 9
 
 
+def test_keys_that_come_all_at_once_are_not_said_to_be_pasted(
+    moon: Path, sit: Sit
+) -> None:
+    sat = sit(moon)
+    sat.state = sat.desk.paste(sat.state, "strike bits.\n", is_keys=True)
+    assert sat.state.message == (
+        "Keys that come all at once are taken as a text, which goes in after Enter or o. No key of"
+        " it was obeyed. U brings it back, for a new paragraph."
+    )
+    assert [each.text for each in sat.desk.drafts.given_up()] == ["strike bits."]
+
+
 def test_what_was_said_before_a_text_was_pasted_is_not_said_again(
     moon: Path, sit: Sit
 ) -> None:

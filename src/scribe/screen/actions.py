@@ -232,10 +232,11 @@ class BringBack:
 
 @dataclass(frozen=True)
 class PutBy:
-    """Keeps a text that was pasted where nothing is typed, or came last as keys."""
+    """Keeps a text that was pasted where nothing is typed, or came as keys, or as the last of them."""
 
     text: str
     is_last: bool = False
+    is_keys: bool = False
 
 
 @dataclass(frozen=True)

@@ -33,7 +33,8 @@ def pasted(state: State, text: str, is_keys: bool = False) -> Step:
     if question and question.parts is not None and not (state.pages or state.is_lost):
         state, question = replace(state, question=None), None
     if typed is None or question or not state.is_typing or state.is_lost:
-        return Step(state, PutBy(text) if text.strip() else None)
+        is_text = bool(text.strip())
+        return Step(state, PutBy(text, is_keys=is_keys) if is_text else None)
     typed = parted_from(state, typed)
     came = _lines_of(text)
     lines = [line for line in came if line.strip()] or ["".join(came)]

@@ -34,7 +34,11 @@ _PASTED = (
     "Pasted text goes in after Enter or o. No key of it was obeyed. U brings it back, for a new"
     " paragraph."
 )
-
+# also of those that were pressed before the screen was there
+_AT_ONCE = (
+    "Keys that come all at once are taken as a text, which goes in after Enter or o. No key of it"
+    " was obeyed. U brings it back, for a new paragraph."
+)
 _ONCE_OPEN = (
     "No key of that text was obeyed. Once the book is open again, U brings it back, for a new"
     " paragraph."
@@ -110,7 +114,7 @@ def _put_by(unsent: Unsent, state: State, action: PutBy) -> State:
     elif state.question is not None and state.question.is_offer:
         said = f"{typed_at_offer(draft.joined)} {_BACK_LATER}"
     else:
-        said = _PASTED
+        said = _AT_ONCE if action.is_keys else _PASTED
     return state.saying(f"{said} {unsent.put_by(draft)}".rstrip())
 
 
