@@ -288,6 +288,59 @@ def test_lines_that_were_cut_short_go_on_where_the_book_ends(
     assert prints(sat)[:5] == found
 
 
+@pytest.mark.parametrize(
+    "number, keys, lines, typed, left",
+    [
+        (1, "o", "It rose.\nIt set.", "", "It rose.\nIt set."),
+        (2, "o", "It rose.\nIt stood.\nIt set.", "", "It stood.\nIt set."),
+        (
+            1,
+            "down enter end",
+            " of\nthe sea.",
+            "The Tides",
+            "The Tides of\nthe sea.",
+        ),
+    ],
+)
+def test_lines_that_are_given_up_where_the_session_ended_are_not_typed_as_well(
+    moon: Path,
+    sit: Sit,
+    monkeypatch: pytest.MonkeyPatch,
+    number: int,
+    keys: str,
+    lines: str,
+    typed: str,
+    left: str,
+) -> None:
+    sat = stopped_once(moon, sit, monkeypatch, number, READ)
+    sat.press(*keys.split())
+    sat.state = sat.desk.paste(sat.state, lines)
+    sat.press("y")
+    assert sat.state.question and sat.state.question.lines == (*left.split("\n"),)
+    assert sat.state.message.endswith(STAYS_NOTE)
+    sat.press("escape")
+    assert [each.text for each in sat.desk.drafts.given_up()] == [left]
+    assert sat.state.typed and sat.state.typed.text == typed
+    sat.press("enter")
+    assert sat.state.version == 6 + number
+    sat.press("U", "y", "y", "escape")
+    its = "\n".join(prints(sat))
+    assert all(its.count(each) == 1 for each in left.split("\n"))
+
+
+def test_a_text_too_long_that_is_given_up_where_the_session_ended_is_not_typed_as_well(
+    moon: Path, sit: Sit, monkeypatch: pytest.MonkeyPatch
+) -> None:
+    text = " ".join(f"This is sentence {n}." for n in range(1, 251))
+    sat = stopped_once(moon, sit, monkeypatch, 1, READ)
+    sat.press("o")
+    sat.state = sat.desk.paste(sat.state, text)
+    sat.press("enter", "y", "escape")
+    (given_up,) = sat.desk.drafts.given_up()
+    assert given_up.text.endswith("This is sentence 250.")
+    assert sat.state.typed and sat.state.typed.text == ""
+
+
 @pytest.mark.parametrize("typed, left", [(2, "Three.\nFour."), (3, "Four."), (4, "")])
 def test_lines_after_an_edit_that_are_in_the_book_are_not_offered_where_none_could_be_kept(
     moon: Path, sit: Sit, typed: int, left: str

@@ -1247,7 +1247,11 @@ def _still_typed(state: State, is_sent: bool) -> State:
     assert state.typed is not None
     if is_sent and state.question is None:
         return _with_end(state, state.typed)
-    return state.saying_too(_TYPE_ON) if state.typed.text else state
+    if is_sent:
+        # where the lines are given up, they aren't typed as well
+        typed = pasted_lines.beside_lines(state, state.typed)
+        state = replace(state, typed=typed)
+    return state.saying_too(_TYPE_ON) if lines_typed(state) else state
 
 
 def _with_end(state: State, typed: Field) -> State:

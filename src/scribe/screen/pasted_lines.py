@@ -127,6 +127,13 @@ def waiting(state: State, purpose: Purpose, lines: Sequence[str]) -> State:
     return replace(state, typed=field, question=about_lines(purpose, lines))
 
 
+def beside_lines(state: State, typed: Field) -> Field:
+    """What is typed where it all is in lines that are asked about: the print as it stands, or nothing."""
+    its = state.reading if typed.purpose is Purpose.EDIT else None
+    front = its.text if its else ""
+    return replace(typed, text=front, place=len(front))
+
+
 def about_ended(state: State) -> Question | None:
     """Whether what is typed on is another line: Enter came with the keys before it, all at once."""
     typed = state.typed

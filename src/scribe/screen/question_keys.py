@@ -18,7 +18,7 @@ from scribe.screen.actions import (
     TypeAll,
 )
 from scribe.screen.field import Field, Purpose
-from scribe.screen.pasted_lines import BACK, about_lines, typed_on
+from scribe.screen.pasted_lines import BACK, about_lines, beside_lines, typed_on
 from scribe.screen.state import End, Question, State, Step
 from scribe.screen.typing_keys import is_character, no_table, table_of_new, while_typing
 
@@ -141,8 +141,5 @@ def _taken_up(asked: State, draft: Field) -> Step:
         # of a print it is said once, since it has the rows of its braille
         typed = replace(draft, said="") if draft.purpose.is_print else draft
         return Step(replace(state, typed=typed).saying(draft.said))
-    # where they are given up, an edit is one of the print as it stands
-    its = asked.reading if draft.purpose is Purpose.EDIT else None
-    front = its.text if its else ""
-    typed = Field(draft.purpose, front, len(front), before=draft.before)
+    typed = replace(beside_lines(asked, draft), said="")
     return Step(replace(state, typed=typed, question=about_lines(typed.purpose, lines)))
