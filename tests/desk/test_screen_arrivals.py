@@ -2,6 +2,7 @@
 
 import os
 import random
+import signal
 import time
 from pathlib import Path
 
@@ -9,13 +10,16 @@ import pytest
 
 import braildesk
 from braildesk import Session
+from braildesk.desk.change_note import Became, ChangeNote, NotedPlace
 from braildesk.desk.draft import Aim, Draft
 from braildesk.desk.drafts import Drafts
 
 from scribe.screen.arrivals import UNREAD, Arrivals, Lull, ToBeRead
 from scribe.screen.keyboard import Keyboard, Pasted, Stroke
+from scribe.words.drafts import Unsent
 from stand_in import READ, WAIT
-from terminal import Open, Terminal, standing_in
+from terminal import Open, Terminal, once_free, standing_in
+from tool import WAIT_SECONDS
 
 
 def done_with(*came: tuple[float, str]) -> list[Stroke]:
@@ -250,6 +254,96 @@ def test_a_text_whose_first_letter_answers_no_offer_is_kept_from_that_letter_on(
     terminal.wait("What was typed at the question is set aside: “Oh”.")
     assert Drafts(moon).waiting() == SOON
     assert [each.text for each in Drafts(moon).given_up()] == ["Oh"]
+
+
+#: Hands that make no pause.
+NO_PAUSE = 1_000.0
+
+
+def typed_at_offer(book: Path, at: Open, text: str) -> Terminal:
+    """A terminal in which a text is typed at an offer, without a pause, and is kept by now."""
+    Drafts(book).save(SOON)
+    terminal = at(book, 160)
+    terminal.wait("Shall it be typed further? y is yes, n is no.")
+    terminal.send(text)
+    end = time.monotonic() + WAIT_SECONDS
+    while Drafts(book).unread() is None:
+        assert time.monotonic() < end
+        time.sleep(0.01)
+    return terminal
+
+
+def test_a_text_that_is_typed_at_an_offer_is_there_once_if_scribe_is_killed_meanwhile(
+    moon: Path, at: Open, monkeypatch: pytest.MonkeyPatch
+) -> None:
+    monkeypatch.setattr("scribe.screen.arrivals.READING_SECONDS", NO_PAUSE)
+    terminal = typed_at_offer(moon, at, "The sea")
+    terminal.send_signal(signal.SIGKILL)
+    assert terminal.ended() == -signal.SIGKILL
+    again = at(moon, 160)
+    again.wait("What was typed at the question is set aside: “The sea”.")
+    again.wait("Shall it be typed further? y is yes, n is no.")
+    assert Drafts(moon).waiting() == SOON
+    assert [each.text for each in Drafts(moon).given_up()] == ["The sea"]
+
+
+def test_a_text_that_was_typed_at_an_offer_is_there_once_if_scribe_is_killed_then(
+    moon: Path, at: Open, monkeypatch: pytest.MonkeyPatch
+) -> None:
+    put_by = Unsent.put_by
+
+    def killed(unsent: Unsent, draft: Draft) -> str:
+        put_by(unsent, draft)
+        os.kill(os.getpid(), signal.SIGKILL)
+        return ""
+
+    with monkeypatch.context() as patched:
+        patched.setattr("scribe.screen.arrivals.READING_SECONDS", NO_PAUSE)
+        patched.setattr(Unsent, "put_by", killed)
+        terminal = typed_at_offer(moon, at, "The sea")
+        terminal.send(" rises")
+        # what no text can have in it ends it
+        terminal.keys("f5")
+        assert terminal.ended() == -signal.SIGKILL
+    again = at(moon, 160)
+    again.wait("Shall it be typed further? y is yes, n is no.")
+    assert [each.text for each in Drafts(moon).given_up()] == ["The sea rises"]
+
+
+def test_a_text_that_was_set_aside_at_an_offer_is_not_set_aside_again_after_a_kill(
+    moon: Path, at: Open, monkeypatch: pytest.MonkeyPatch
+) -> None:
+    monkeypatch.setattr("scribe.screen.arrivals.READING_SECONDS", NO_PAUSE)
+    terminal = typed_at_offer(moon, at, "The sea")
+    terminal.keys("f5")
+    terminal.wait("That key is no answer to the question.")
+    assert Drafts(moon).unread() is None
+    assert [each.text for each in Drafts(moon).given_up()] == ["The sea"]
+
+
+def test_letters_of_a_text_that_was_begun_at_an_offer_are_no_keys_once_that_is_gone(
+    moon: Path, at: Open, monkeypatch: pytest.MonkeyPatch
+) -> None:
+    monkeypatch.setattr("scribe.screen.arrivals.READING_SECONDS", NO_PAUSE)
+    place = NotedPlace(1, 21, 4, "moon", Became.OPEN)
+    Drafts(moon).begin_change(ChangeNote("moon", "sun", False, False, 7, (place,)))
+    terminal = at(moon, 160)
+    terminal.wait("Shall the others be listed?")
+    terminal.send("s")
+    terminal.await_read()
+    os.kill(terminal.program(), signal.SIGKILL)
+    terminal.wait("The book was opened again")
+    terminal.send("o")
+    terminal.await_read()
+    # longer than a key is held that is a command
+    time.sleep(0.1)
+    terminal.keys("f5")
+    terminal.wait("does nothing here")
+    assert [each.text for each in Drafts(moon).given_up()] == ["so"]
+    terminal.keys("q")
+    assert terminal.ended() == 0
+    with once_free(moon) as session:
+        assert session.last_version == 7
 
 
 def test_letters_that_are_typed_on_after_keys_that_came_at_once_answer_no_question(

@@ -41,6 +41,11 @@ class Arrivals:
     _latest: float = 0.0
 
     @property
+    def holds_unread(self) -> bool:
+        """Whether a text is held that hands type at what is offered, since they made no pause yet."""
+        return self.is_unread and bool(self._held)
+
+    @property
     def due(self) -> float | None:
         """The time at which nothing more comes with what is held; None if nothing is."""
         if not self._held:

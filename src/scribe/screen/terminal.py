@@ -264,7 +264,9 @@ class Screen:
 
     def _keep_unread(self) -> str:
         """Keeps text that came and can't be taken in yet, and gives what is in the way of that."""
-        return self._desk.keep_unread(unread_of(self.state, self._left()))
+        is_at_offer = self._arrivals.holds_unread
+        unread = unread_of(self.state, self._left(), is_at_offer)
+        return self._desk.keep_unread(unread)
 
     def _keep_last(self) -> None:
         """Keeps what is typed at the end, and has it said if it can't be, or if it waits."""
@@ -403,7 +405,9 @@ class Screen:
         self._question.came(self._asked, pressed_at, read_at)
         text, self._taking = self._taking, ""
         strokes = self._keyboard.strokes(text)
-        self._arrivals.is_unread = self._is_unread_offer or self._begin_text(strokes)
+        # what is begun at an offer is one text also where that isn't there any more
+        is_unread = self._is_unread_offer or self._begin_text(strokes)
+        self._arrivals.is_unread = is_unread or self._arrivals.holds_unread
         self._lull.came(len(text), self._keyboard.is_pasting, now)
         self._do(self._arrivals.came(strokes, now, since))
 
@@ -495,14 +499,23 @@ class Screen:
             if isinstance(stroke, Pasted) or is_typed_on:
                 self._waiting.append(stroke)
         elif isinstance(stroke, Pasted):
-            state = self._desk.paste(self.state, stroke.text, stroke.is_keys)
-            self._become(state if stroke.has_end else state.saying_too(_NO_END))
+            self._paste(stroke)
         elif self._is_unread_offer and (stroke == UNREAD or is_text(stroke)):
             self._become(self.state.saying(_TOO_SOON).after(self.state))
         elif self._is_typed_on(stroke):
             self._become(self._desk.paste(self.state, stroke))
         else:
             self._become(self._desk.press(self.state, stroke))
+
+    def _paste(self, text: Pasted) -> None:
+        """Takes in a text. What was typed at an offer is kept at each moment, and once."""
+        if self._arrivals.is_unread:
+            # all of it: the same text, set aside, takes its place
+            self._desk.keep_unread(unread_of(self.state, [text], True))
+        state = self._desk.paste(self.state, text.text, text.is_keys)
+        if self._arrivals.is_unread:
+            self._desk.keep_unread(None)
+        self._become(state if text.has_end else state.saying_too(_NO_END))
 
     @property
     def _asked(self) -> object:
@@ -648,9 +661,9 @@ class Screen:
             await asyncio.sleep(_SAVE_SECONDS)
             state = self.state
             # lines that are typed beside the screen are kept there, and here what comes after them
-            if state.away:
+            if state.away or self._arrivals.holds_unread:
                 self._keep_unread()
-            elif state.typed:
+            if state.typed and not state.away:
                 self._begin_work()
                 kept = self._desk.save_draft(state)
                 if kept is not state:

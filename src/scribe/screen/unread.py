@@ -53,10 +53,13 @@ def rest_of(state: State, came: Sequence[Stroke]) -> Rest:
     return rest
 
 
-def unread_of(state: State, came: Sequence[Stroke]) -> Unread | None:
+def unread_of(
+    state: State, came: Sequence[Stroke], is_at_offer: bool = False
+) -> Unread | None:
     """What is kept of keys as long as they can't be carried out; nothing of none that is text.
 
-    What is typed waits already as it is, so that only the text beyond it is kept.
+    What is typed waits already as it is, so that only the text beyond it is kept. It may be a text
+    that is typed at what is offered.
     """
     if state.away:
         text = "".join(map(text_of, came)).strip()
@@ -69,7 +72,7 @@ def unread_of(state: State, came: Sequence[Stroke]) -> Unread | None:
     aside = draft_of_pasted(state, "\n".join(texts))
     if not (lines or aside.text):
         return None
-    return Unread(draft_of_pasted(state, lines).text, aside)
+    return Unread(draft_of_pasted(state, lines).text, aside, is_at_offer)
 
 
 def _beyond(before: State, after: State) -> tuple[str, str]:
