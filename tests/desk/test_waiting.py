@@ -452,6 +452,70 @@ def test_what_was_not_done_is_said_until_it_could_be_read(
         terminal.wait_gone(refused)
 
 
+REFUSED = "Paragraph 2 has no correction that could be taken back. Nothing was changed."
+
+
+@pytest.mark.parametrize("size", [(80, 24), (40, 12), (40, 8), (40, 5), (40, 4)])
+def test_what_was_not_done_is_said_before_what_the_next_key_says_until_it_could_be_read(
+    moon: Path, at: Open, monkeypatch: pytest.MonkeyPatch, size: tuple[int, int]
+) -> None:
+    monkeypatch.setattr("scribe.screen.terminal.READING_SECONDS", 1_000.0)
+    terminal = at(moon, *size)
+    terminal.wait("? shows the keys.")
+    terminal.keys("down", "u")
+    terminal.wait("has no correction")
+    terminal.settle()
+    for _ in range(2):
+        terminal.keys("f5")
+        terminal.wait("key does nothing here" if size[1] > 4 else "has no correction")
+        terminal.settle()
+        said = " ".join(" ".join(terminal.lines).split())
+        assert REFUSED.removesuffix(".") in said
+        assert size[1] < 5 or f"{REFUSED} That key does nothing here." in said
+
+
+@pytest.mark.parametrize("lines", [1, 2, 3])
+def test_what_was_not_done_is_read_first_on_few_lines(
+    moon: Path, at: Open, monkeypatch: pytest.MonkeyPatch, lines: int
+) -> None:
+    monkeypatch.setattr("scribe.screen.terminal.READING_SECONDS", 1_000.0)
+    terminal = at(moon, 40, lines)
+    terminal.wait("? shows the keys.")
+    terminal.keys("down", "u")
+    terminal.wait("Paragraph 2 has no correction that")
+    terminal.settle()
+    terminal.keys("f5")
+    terminal.settle()
+    terminal.wait("Paragraph 2 has no correction that")
+    # what is said is read further by Down
+    said = ""
+    for _ in range(4):
+        said += " ".join(terminal.lines)
+        terminal.keys("down")
+        terminal.settle()
+    assert "That key does nothing here." in said
+
+
+def test_what_was_not_done_is_said_of_before_where_the_next_keys_went_elsewhere(
+    moon: Path, at: Open, monkeypatch: pytest.MonkeyPatch
+) -> None:
+    monkeypatch.setattr("scribe.screen.terminal.READING_SECONDS", 1_000.0)
+    terminal = at(moon, 160)
+    terminal.wait("? shows the keys.")
+    terminal.keys("down", "u")
+    terminal.wait(REFUSED)
+    terminal.settle()
+    before = f"Before the last keys this was said: {REFUSED}"
+    terminal.keys("down")
+    terminal.wait(before)
+    terminal.keys("f5")
+    terminal.wait(f"{before} Now: That key")
+    # also where what is done is waited for
+    terminal.keys("x", "pages", "enter")
+    terminal.wait("Export. Lines")
+    terminal.wait(before)
+
+
 def test_what_was_done_is_said_until_the_next_key(
     moon: Path, at: Open, monkeypatch: pytest.MonkeyPatch
 ) -> None:

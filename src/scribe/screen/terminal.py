@@ -45,7 +45,7 @@ from scribe.screen.drawing import Drawing, draw
 from scribe.screen.keyboard import Keyboard, Pasted, Stroke
 from scribe.screen.keys import is_obeyed
 from scribe.screen.lines import CHOSEN, HEAD, HIGHLIGHTED, MARKED, PLAIN
-from scribe.screen.state import Size, State, lines_typed
+from scribe.screen.state import Size, State, lines_typed, saying_first
 from scribe.screen.unread import rest_of, unread_of
 from scribe.screen.waiting import not_obeyed
 from scribe.words.console import WAITING
@@ -114,6 +114,8 @@ _SIGNALS = (
 )
 # what stands before a sentence that was said of what keys have changed since
 _BEFORE_KEYS = "Before the last keys this was said: "
+# and what stands after it, before a sentence of these keys
+_NOW = "Now:"
 
 
 class HungUp(Exception):
@@ -471,7 +473,7 @@ class Screen:
 
     def _leave_said(self) -> None:
         """Leaves on the screen what wasn't there yet as the keys came that would take it away."""
-        is_seen = self._said_at + self._reading <= self._read_at
+        is_seen = self._is_seen_by(self._read_at)
         if is_seen or self.state.message or self.state.is_over:
             return
         said = self._said
@@ -480,6 +482,34 @@ class Screen:
             said = f"{_BEFORE_KEYS}{said.removeprefix(_BEFORE_KEYS)}"
             self._note_said(said, self.state)
         self.state = self.state.saying(said)
+
+    def _is_seen_by(self, time_then: float) -> bool:
+        """Whether what was said last was there to be read by a time."""
+        return self._said_at + self._reading <= time_then
+
+    def _unread_failure(self, state: State) -> str:
+        """A failure that nobody has read before a state, as it is said beside that; or nothing."""
+        failure = self.state.failure
+        by_now = self._read_at if self._under_way else self._clock()
+        is_read = not self._reading or self._is_seen_by(by_now)
+        if is_read or failure not in self._said:
+            return ""
+        is_before = self._said.startswith(_BEFORE_KEYS) or _spot(state) != self._said_of
+        return f"{_BEFORE_KEYS}{failure}" if is_before else failure
+
+    def _heard(self, state: State) -> State:
+        """The state with what is said of it, after a failure that nobody has read yet."""
+        if not state.message or state.message == self._said:
+            return state
+        unread = self._unread_failure(state)
+        if unread and self.state.failure not in state.message:
+            now = f" {_NOW}" if unread.startswith(_BEFORE_KEYS) else ""
+            both = saying_first(f"{unread}{now}", state)
+            # neither of two failures is read yet
+            state = replace(both, failure=both.message) if state.says_failure else both
+        self._note_said(state.message, state)
+        self._reading = READING_SECONDS if state.says_failure else 0.0
+        return state
 
     def _note_said(self, sentence: str, state: State) -> None:
         """Notes what is said, until it was on the screen as a key came."""
@@ -566,10 +596,10 @@ class Screen:
     def _become(self, state: State) -> None:
         if state.away:
             # that it has to be waited for isn't so any more once that is done
-            self._said, self._said_at = "", 0.0
-        elif state.message and state.message != self._said:
-            self._note_said(state.message, state)
-            self._reading = READING_SECONDS if state.says_failure else 0.0
+            self._said = self._unread_failure(state)
+            self._said_at = math.inf if self._said else 0.0
+        else:
+            state = self._heard(state)
         self.state = state
         if state.is_over:
             self._app.exit()
