@@ -395,8 +395,47 @@ def test_what_was_given_up_and_is_kept_nowhere_is_said_at_the_end(
     terminal.keys("escape")
     terminal.wait("It is here only until")
     terminal.keys("q")
+    terminal.wait("Shall scribe end? y is yes, n is no.")
+    terminal.keys("y")
     assert terminal.ended() == 0
     assert "This was given up, and is kept nowhere:\nIt rose.\n" in terminal.said
+
+
+def test_q_asks_before_texts_are_left_that_are_kept_nowhere(
+    moon: Path, sit: Sit, monkeypatch: pytest.MonkeyPatch
+) -> None:
+    sat = sit(moon)
+    with monkeypatch.context() as patched:
+        patched.setattr(OwnFolder, "write", no_room)
+        sat.press("o", *"It rose.", "escape", "q")
+        assert not sat.state.is_over
+        assert asked(sat) == (
+            "“It rose.” was given up, and can't be kept. At the end it is shown once more, and kept"
+            " nowhere. Shall scribe end? y is yes, n is no."
+        )
+        sat.press("n")
+        said = "The book stays open. U brings the text back."
+        assert (sat.state.message, sat.state.question) == (said, None)
+        sat.press("o", *"It set.", "escape", "q")
+        assert asked(sat).startswith(
+            "2 texts were given up, the last of them “It set.”, and can't be kept. At the end they"
+        )
+        sat.press("escape", "U", "n", "q", "y")
+        assert sat.state.is_over
+    assert sat.desk.unkept == ("It set.", "It rose.")
+
+
+def test_q_asks_nothing_once_there_is_room_for_what_was_given_up(
+    moon: Path, sit: Sit, monkeypatch: pytest.MonkeyPatch
+) -> None:
+    sat = sit(moon)
+    with monkeypatch.context() as patched:
+        patched.setattr(OwnFolder, "write", no_room)
+        sat.press("o", *"It rose.", "escape")
+        assert sat.desk.unkept == ("It rose.",)
+    sat.press("q")
+    assert sat.state.is_over
+    assert [each.text for each in Drafts(moon).given_up()] == ["It rose."]
 
 
 def test_lines_that_were_pasted_into_an_edit_and_cut_short_go_on(

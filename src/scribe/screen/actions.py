@@ -246,7 +246,9 @@ class OpenAgain:
 
 @dataclass(frozen=True)
 class Quit:
-    """Ends."""
+    """Ends, or asks first whether texts are left that are kept nowhere, if it wasn't asked yet."""
+
+    is_asked: bool = False
 
 
 Action = (

@@ -104,7 +104,13 @@ from scribe.screen.state import (
     without_typed,
     words_of,
 )
-from scribe.screen.waiting import asked_about, unkept, where_kept, with_text
+from scribe.screen.waiting import (
+    asked_about,
+    left_or_asked,
+    unkept,
+    where_kept,
+    with_text,
+)
 from scribe.words import deeds, pagelook
 from scribe.words.aftermath import deed_found, found_again, kept_alone
 from scribe.words.change_all import STAY
@@ -873,7 +879,7 @@ class Desk:
     ) -> State:
         match action:
             case Quit():
-                return replace(state, is_over=True)
+                return left_or_asked(self._unsent, state, action)
             case ToFound():
                 found = finding.to_found(self._session, state, action)
                 return self._with_page_said(state, found)

@@ -14,6 +14,7 @@ from scribe.screen.actions import (
     GoOn,
     ImportFrom,
     PutOff,
+    Quit,
     TakeBack,
     TypeAll,
 )
@@ -27,11 +28,12 @@ _READ_ON = "Up and Down go through it."
 _ASKED_LATER = "It is asked again when the book is opened."
 _STAYS_GIVEN_UP = "It stays given up. U asks about it again."
 _STAYS_TYPED = "It stays as it is typed. Enter asks again."
-_DONE = {
-    ImportFrom: "typed",
-    FindPlaces: "changed",
-    TakeBack: "taken back",
-    requests.Resolve: "resolved",
+_NOT_DONE = {
+    ImportFrom: "Nothing was typed.",
+    FindPlaces: "Nothing was changed.",
+    TakeBack: "Nothing was taken back.",
+    requests.Resolve: "Nothing was resolved.",
+    Quit: "The book stays open. U brings the text back.",
 }
 
 
@@ -93,12 +95,12 @@ def _about_lines(state: State, typed: Field, question: Question, key: str) -> St
 def _about_errand(
     state: State,
     question: Question,
-    action: ImportFrom | FindPlaces | TakeBack | requests.Resolve,
+    action: ImportFrom | FindPlaces | TakeBack | requests.Resolve | Quit,
     key: str,
 ) -> Step:
-    """An import or a change of words goes on; what keys did is taken back; a mark is resolved."""
+    """An import or a change of words goes on; what keys did is taken back; a mark is resolved; all ends."""
     answered = replace(state, question=None)
-    nothing = f"Nothing was {_DONE[type(action)]}."
+    nothing = _NOT_DONE[type(action)]
     if key == "y":
         return Step(answered, action)
     if key == "n" and question.no:

@@ -23,6 +23,7 @@ from scribe.screen.actions import (
     LeaveChange,
     LeaveImport,
     OfWholeBook,
+    Quit,
     SetVolumes,
     TakeBack,
     TypeAll,
@@ -80,8 +81,8 @@ class Question:
     #: A text that is too long for one paragraph, and may go on in a new one, in its two parts.
     parts: tuple[str, str] | None = None
     #: What is done if the answer is yes, or no, where the question is about a text in a file, about
-    #: words that were being changed, about what is taken back, or about what can't be.
-    yes: ImportFrom | FindPlaces | TakeBack | Resolve | None = None
+    #: words that were being changed, about what is taken back, or about what can't be, or kept.
+    yes: ImportFrom | FindPlaces | TakeBack | Resolve | Quit | None = None
     no: LeaveImport | LeaveChange | None = None
     #: The place of the text that U asks about next, if this one was given up.
     older: int | None = None

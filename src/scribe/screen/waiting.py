@@ -9,7 +9,7 @@ from braildesk.text.characters import visible
 from braildesk.text.sequences import composed
 from braildesk.text.spans import Span
 
-from scribe.screen.actions import BringBack, GiveUp, PutBy, PutOff
+from scribe.screen.actions import BringBack, GiveUp, PutBy, PutOff, Quit
 from scribe.screen.field import Purpose
 from scribe.screen.in_hand import on_words
 from scribe.screen.state import (
@@ -116,6 +116,24 @@ def _put_by(unsent: Unsent, state: State, action: PutBy) -> State:
     else:
         said = _AT_ONCE if action.is_keys else _PASTED
     return state.saying(f"{said} {unsent.put_by(draft)}".rstrip())
+
+
+def left_or_asked(unsent: Unsent, state: State, action: Quit) -> State:
+    """The state in which the book is left, or in which it is asked about texts that are kept nowhere."""
+    unsent.keep_again()
+    texts = unsent.unkept
+    if not texts or action.is_asked or state.is_lost:
+        return replace(state, is_over=True)
+    newest, they_are = f"{quoted(texts[0])} was given up", "it is"
+    if len(texts) > 1:
+        count = counted(len(texts), "text")
+        newest = f"{count} were given up, the last of them {quoted(texts[0])}"
+        they_are = "they are"
+    asked = (
+        f"{newest}, and can't be kept. At the end {they_are} shown once more, and kept nowhere."
+        " Shall scribe end?"
+    )
+    return replace(state, question=Question(asked, yes=Quit(is_asked=True)))
 
 
 def not_obeyed(keys: str) -> str:
