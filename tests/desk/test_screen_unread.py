@@ -21,6 +21,8 @@ TYPED = replace(STATE, typed=Field(Purpose.AFTER, "The moon", 8))
         ("s backspace n backspace s h", "The moonsh"),
         ("home A c-e s", "AThe moons"),
         ("f5 s tab", "The moons"),
+        ("tab s h", "The moonsh"),
+        ("s tab enter tab I t", "The moons|It"),
         ("c-w s u n", "The sun"),
         ("enter backspace I t", "The moon|It"),
         ("enter I t backspace s left enter W e", "The moon|Is|We"),

@@ -99,9 +99,9 @@ def _with_pasted(rest: Rest, text: Pasted, is_ended: bool) -> Rest:
 
 
 def _edited(state: State, key: str) -> State | None:
-    """The state after a key that moves in what is typed or takes something out; None for others."""
+    """The state after a key that moves in what is typed, takes something out or does nothing; or None."""
     typed, asked = state.typed, state.question
-    if typed is None or key == "escape" or is_text(key):
+    if typed is None or key in ("escape", "enter"):
         return None
     if asked is not None:
         is_back = key == "backspace" and asked.is_typed_on
