@@ -1,5 +1,6 @@
 """The book that is opened again: after its session ended by itself, or was of another version."""
 
+import errno
 import os
 import shutil
 import signal
@@ -11,6 +12,7 @@ import pytest
 from braildesk import Displaced, Session
 from braildesk.desk.draft import Aim, Draft
 from braildesk.desk.drafts import Drafts
+from braildesk.desk.own_folder import OwnFolder
 
 from scribe.screen.desk import Desk
 from scribe.screen.state import Size
@@ -36,6 +38,10 @@ def stopped_once(
         for name, value in standing_in(number, far, KILL_PROGRAM).items():
             patched.setenv(name, value)
         return sit(book)
+
+
+def no_room(*_: object) -> None:
+    raise OSError(errno.ENOSPC, os.strerror(errno.ENOSPC))
 
 
 def prints(sat: Sat) -> list[str]:
@@ -674,6 +680,36 @@ def test_a_command_for_another_version_is_not_carried_out_and_the_book_is_shown_
     )
     sat.press("n", "s")
     assert sat.state.kept == "kept: paragraph 1 struck"
+
+
+@pytest.mark.parametrize("key", ["l", "n", "y", "killed"])
+def test_a_text_that_could_not_be_kept_is_not_lost_where_another_program_changed_the_book(
+    moon: Path, sit: Sit, monkeypatch: pytest.MonkeyPatch, key: str
+) -> None:
+    with monkeypatch.context() as patched:
+        for name, value in standing_in(1, READ, SEND, "correct 1 0 3 A").items():
+            patched.setenv(name, value)
+        sat = sit(moon)
+    monkeypatch.setattr(OwnFolder, "write", no_room)
+    sat.press("down", "enter", *"Oh, ", "enter")
+    text = "Oh, The Tides"
+    assert sat.state.question and sat.state.question.draft
+    assert sat.desk.unkept == (text,)
+    if key == "killed":
+        killed(sat)
+        assert sat.desk.unkept == (text,)
+        return
+    sat.press(key)
+    if key == "y":
+        assert sat.state.typed and sat.state.typed.text == text
+        sat.press("escape")
+    assert sat.desk.unkept == (text,)
+    if key == "l":
+        assert sat.state.message == (
+            "The text couldn't be kept to wait. U brings it back."
+        )
+    sat.press("U")
+    assert sat.state.question and f"“{text}”" in sat.state.question.sentence
 
 
 @pytest.mark.parametrize("is_known", [True, False])

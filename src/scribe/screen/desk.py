@@ -478,6 +478,9 @@ class Desk:
                 said = f"{state.message} {said}" if state.message else said
                 return self.save_draft(state.saying(said))
             saved = rest
+        if not self._unsent.waits(saved.text):
+            # it couldn't be kept, and is asked about until it is answered
+            self._unsent.put_by(saved)
         moved = where_typed(self._unsent.typed_at)
         return asked_about(self._session, state, saved, moved=moved)
 

@@ -43,6 +43,8 @@ _ONCE_OPEN = (
     "No key of that text was obeyed. Once the book is open again, U brings it back, for a new"
     " paragraph."
 )
+_LATER = "The text waits for the next opening. U asks about it before."
+_NOT_LATER = "The text couldn't be kept to wait. U brings it back."
 _KEPT = "They are kept as a text, which U brings back."
 _BACK_LATER = "Once nothing is asked or typed any more, U brings it back."
 
@@ -61,8 +63,9 @@ def with_text(
             return _brought_back(session, unsent, state, action.place)
         case PutBy():
             return _put_by(unsent, state, action)
+    offered = state.question.draft if state.question else None
+    said = _LATER if offered and unsent.waits(offered.text) else _NOT_LATER
     unsent.put_off()
-    said = "The text waits for the next opening. U asks about it before."
     return replace(state, question=None, anchor=None).saying(said)
 
 

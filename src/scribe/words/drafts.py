@@ -299,9 +299,14 @@ class Unsent:
             self._drafts.keep_words(*words)
             self.words = words
 
+    def waits(self, text: str) -> bool:
+        """Whether a text is the one that waits, or lines at its end."""
+        return self.waiting is not None and self.waiting.text.endswith(text)
+
     def put_by(self, draft: Draft) -> str:
         """Keeps a text as the newest of those given up, and says what is in the way of that."""
         self._forget(draft.text)
+        self._here = [each for each in self._here if each.text != draft.text]
         try:
             older = self._drafts.put_by(draft)
         except NotKept as fault:
