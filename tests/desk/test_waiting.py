@@ -408,6 +408,34 @@ def test_what_is_typed_on_after_a_few_pasted_lines_is_another_line_if_scribe_is_
     once_free(moon).close()
 
 
+def test_both_parts_of_a_text_that_is_too_long_wait_if_scribe_is_told_to_end(
+    moon: Path, at: Open
+) -> None:
+    terminal = at(moon)
+    terminal.wait("? shows the keys.")
+    terminal.keys("o", " ".join(f"This is sentence {n}." for n in range(1, 251)))
+    terminal.wait("This is sentence 250.")
+    terminal.keys("enter")
+    terminal.wait("and this one has")
+    terminal.settle()
+    # as long as it takes to read that
+    time.sleep(0.5)
+    os.kill(terminal.program(), signal.SIGSTOP)
+    terminal.send("y")
+    terminal.wait(WAITING)
+    terminal.send("It set.")
+    terminal.await_read()
+    terminal.send_signal(signal.SIGTERM)
+    assert terminal.ended() != 0
+    waits = Drafts(moon).waiting()
+    assert waits and len(waits.text) > 4_000
+    first, rest, last = waits.text.split("\n")
+    assert len(first) <= 4_000
+    assert rest.endswith("This is sentence 250.")
+    assert last == "It set."
+    once_free(moon).close()
+
+
 def test_what_keys_made_untrue_is_said_to_be_of_before(moon: Path, at: Open) -> None:
     terminal = at(moon)
     terminal.wait("? shows the keys.")

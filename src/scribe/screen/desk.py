@@ -559,6 +559,9 @@ class Desk:
                 if isinstance(interrupted.cause, Refused):
                     interrupted.state = replace(interrupted.state, question=None)
                 raise
+            except Interrupted as stop:
+                # the book may get the first part yet
+                raise _Interrupted(waiting, stop) from stop
         return self._begun(state, action.rest)
 
     def _drawn(self, state: State) -> State:
