@@ -243,6 +243,37 @@ def test_a_fault_of_scribe_ends_the_screen_in_words_and_keeps_what_is_typed(
     again.wait("further? y is yes, n is no.")
 
 
+def test_a_fault_of_scribe_beside_the_screen_keeps_what_was_pasted_meanwhile(
+    moon: Path, at: Open
+) -> None:
+    folder = moon.parent
+    (folder / "sitecustomize.py").write_text(
+        "import os, time\n"
+        "from scribe.screen.desk import Desk\n\n"
+        "def away(self, state, report):\n"
+        "    while not os.path.exists('go'):\n"
+        "        time.sleep(0.01)\n"
+        "    raise KeyError('moon')\n\n"
+        "Desk.away = away\n"
+    )
+    # the text is kept nowhere before the end
+    terminal = at(
+        moon,
+        PYTHONPATH=f"{folder}:{ROOT / 'src'}",
+        XDG_STATE_HOME="/proc/nowhere",
+    )
+    terminal.wait("? shows the keys.")
+    terminal.keys("x", "pages", "enter")
+    terminal.wait("Please wait.")
+    terminal.paste("The sun")
+    terminal.await_read()
+    (folder / "go").touch()
+    assert terminal.ended() == 3
+    said = terminal.said.replace("\n", " ")
+    assert "This was given up, and is kept nowhere: The sun" in said
+    assert "scribe has a fault of its own and stopped" in said
+
+
 def test_a_text_that_can_not_be_kept_is_said_also_where_scribe_has_a_fault(
     moon: Path, at: Open
 ) -> None:

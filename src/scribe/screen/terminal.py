@@ -233,9 +233,12 @@ class Screen:
         except TerminalFailed as failed:
             raise failed.failure from None
         finally:
-            self._settle()
-            self._take_rest()
-            self._keep_last()
+            try:
+                self._settle()
+            finally:
+                # also after a fault in what was done with the session closed
+                self._take_rest()
+                self._keep_last()
 
     def _take_rest(self) -> None:
         """Keeps text that came and wasn't taken in before the end; no key of it is obeyed.
