@@ -359,6 +359,22 @@ def test_who_types_on_where_the_session_ends_does_not_end_scribe(
     assert f"isinthenewfile“{moon}-saved-1”." in "".join(terminal.said.split())
 
 
+def test_what_is_typed_on_where_the_session_ends_is_kept_from_its_first_letter_on(
+    moon: Path, at: Open
+) -> None:
+    terminal = at(moon, 160)
+    terminal.wait("? shows the keys.")
+    terminal.keys("o", "It rose.")
+    terminal.wait("It rose.")
+    moon.unlink()
+    # over a network keys may come together
+    terminal.send("\rI")
+    terminal.type_on("t set.")
+    terminal.wait("Enter opens the book again  q ends")
+    terminal.wait("No key of that text was obeyed.")
+    assert [each.text for each in Drafts(moon).given_up()] == ["It set."]
+
+
 def written(file: TextIO) -> None:
     """Writes to a terminal, and then has what is left written where nothing is refused."""
     output = Output.from_pty(file, term="xterm")

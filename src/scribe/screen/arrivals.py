@@ -76,6 +76,16 @@ class Arrivals:
                 self._latest = now
         return done
 
+    def hold(self, strokes: Sequence[Stroke], now: float) -> list[Stroke]:
+        """What is to be done of keys that came before something was offered that nobody has read.
+
+        The text at their end is held with what comes after it.
+        """
+        later, self._held, self.is_unread = self._held, [], True
+        done = self.came(strokes, now)
+        self._held += later
+        return done
+
     def let_go(self, now: float) -> list[Stroke]:
         """What was held, if nothing more comes with it."""
         due = self.due

@@ -444,6 +444,11 @@ class Screen:
         rest = self._under_way = deque(strokes)
         try:
             while rest:
+                if self._is_too_soon(rest[0]):
+                    held = self._arrivals.hold([*rest], self._clock())
+                    rest.clear()
+                    rest += held
+                    continue
                 self._carry_out(rest[0])
                 if self._is_stopped_among_lines(rest.popleft()):
                     self._ends_among_lines = True
@@ -459,6 +464,12 @@ class Screen:
             self._leave_said()
             self._end_work()
             self._wait_for_held()
+
+    def _is_too_soon(self, stroke: Stroke) -> bool:
+        """Whether a key begins a text that came before what is offered by now could be read."""
+        is_taken = not (self.state.away or self.state.is_over)
+        is_letter = isinstance(stroke, str) and is_text(stroke)
+        return is_taken and is_letter and self._is_unread_offer
 
     def _set_rest_aside(self, rest: Sequence[Stroke], failure: OSError) -> None:
         """Gives up the text among keys of which the system refused the first, and says so."""
@@ -533,7 +544,7 @@ class Screen:
                 self._waiting.append(stroke)
         elif isinstance(stroke, Pasted):
             self._paste(stroke)
-        elif self._is_unread_offer and (stroke == UNREAD or is_text(stroke)):
+        elif self._is_unread_offer and stroke == UNREAD:
             self._become(self.state.saying(_TOO_SOON).after(self.state))
         elif self._is_typed_on(stroke):
             self._become(self._desk.paste(self.state, stroke))
