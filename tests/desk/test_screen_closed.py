@@ -11,7 +11,7 @@ import pytest
 from braildesk.desk.drafts import Drafts
 
 from scribe.screen.terminal import HungUp, Output, TerminalFailed
-from stand_in import KEPT, READ, WAIT
+from stand_in import KEPT, READ, SEND, WAIT
 from terminal import Open, Terminal, once_free, standing_in
 from tool import ROOT
 
@@ -373,6 +373,21 @@ def test_what_is_typed_on_where_the_session_ends_is_kept_from_its_first_letter_o
     terminal.wait("Enter opens the book again  q ends")
     terminal.wait("No key of that text was obeyed.")
     assert [each.text for each in Drafts(moon).given_up()] == ["It set."]
+
+
+def test_what_is_typed_on_where_a_text_is_offered_is_kept_from_its_first_letter_on(
+    moon: Path, at: Open
+) -> None:
+    terminal = at(moon, 160, **standing_in(1, READ, SEND, "strike", "2"))
+    terminal.wait("? shows the keys.")
+    terminal.keys("o", "It rose.")
+    terminal.wait("It rose.")
+    terminal.send("\rI")
+    terminal.type_on("t set.")
+    terminal.wait("What was typed at the question is set aside: “It set.”.")
+    terminal.wait("Shall it be typed further? y is yes, n is no.")
+    waiting = Drafts(moon).waiting()
+    assert waiting and waiting.text == "It rose."
 
 
 def written(file: TextIO) -> None:
