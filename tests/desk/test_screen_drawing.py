@@ -274,6 +274,13 @@ def test_an_empty_book_says_what_to_do() -> None:
     state = replace(STATE, book=(), openings={}, reading=None, highlighted=None)
     lines = draw(state).texts()
     assert lines[1].startswith("The book has no paragraphs. o types the first one")
+    # among several tables one is chosen first, before o types anything
+    state = replace(state, tables=("de", "ueb"))
+    assert draw(state).texts()[1] == (
+        "The book has no paragraphs, but the tables de, ueb. t chooses one for the first."
+    )
+    lines = draw(replace(state, table="de")).texts()
+    assert lines[1].startswith("The book has no paragraphs. o types the first one")
 
 
 def test_a_question_is_asked_on_the_last_line() -> None:

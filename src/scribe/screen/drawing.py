@@ -168,9 +168,7 @@ def _title(state: State) -> Line:
 
 def _middle(state: State, room: int) -> Area:
     if not state.book and not (state.typed and state.typed.purpose.is_print):
-        text = "The book has no paragraphs. o types the first one, i imports a text."
-        if not state.tables:
-            text = "The book has no table and no paragraphs. t puts a table into it."
+        text = _of_no_paragraphs(state)
         lines: list[Line] = [(Run(each),) for each in wrap(text, state.size.columns)]
         return Area(filled(lines, room), (0, 0))
     listed = _listed(state, min(state.list_lines, max(1, room - 3)))
@@ -180,6 +178,15 @@ def _middle(state: State, room: int) -> Area:
     below = body(state, room - len(above))
     cursor = below.cursor and (len(above) + below.cursor[0], below.cursor[1])
     return Area(filled([*above, *below.lines], room), cursor)
+
+
+def _of_no_paragraphs(state: State) -> str:
+    if not state.tables:
+        return "The book has no table and no paragraphs. t puts a table into it."
+    if len(state.tables) > 1 and not state.table:
+        names = ", ".join(state.tables)
+        return f"The book has no paragraphs, but the tables {names}. t chooses one for the first."
+    return "The book has no paragraphs. o types the first one, i imports a text."
 
 
 def _listed(state: State, count: int) -> list[Line]:
