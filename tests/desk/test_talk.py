@@ -20,6 +20,10 @@ from tool import at_end, at_terminal, end, environment, scribe
 #: Longer than what a terminal that collects lines gives to a program.
 PASTED_BYTES = 20_000
 
+COMES_BACK = (
+    "Up brings back what was typed as a talk was broken off, and Ctrl-C gives it up:"
+)
+
 
 def talk_about(book: Path, *words: str, **more: str) -> Prompted:
     """A person at a terminal at which scribe talks about a book."""
@@ -799,13 +803,22 @@ def test_a_line_that_was_broken_off_comes_back_at_the_next_talk(
     break_off(moon, "che", signal.SIGTERM)
     talk = talk_about(moon)
     assert talk.greeting[1:] == [
-        "Up brings back what was typed as a talk was broken off:",
+        COMES_BACK,
         "type end en It is “far” and",
         "strike 1",
     ]
     assert talk.type("\x1b[A\x1b[A away.")[0] == (
         "Paragraph 4, at the end of the book: It is “far” and away."
     )
+    assert talk.end("quit\r").status == 0
+    # what wasn't answered comes back until it is given up
+    talk = talk_about(moon)
+    assert talk.greeting[1:] == [COMES_BACK, "strike 1"]
+    assert talk.end("quit\r").status == 0
+    talk = talk_about(moon)
+    talk.keys("\x1b[A")
+    talk.wait_for("strike 1")
+    assert talk.give_up() == ["Given up. Nothing was changed."]
     assert talk.end("quit\r").status == 0
     talk = talk_about(moon)
     assert len(talk.greeting) == 1
@@ -844,7 +857,7 @@ def test_a_short_answer_that_was_broken_off_comes_back_with_its_command(
     talk.stop_by(signal.SIGTERM)
     talk = talk_about(moon)
     assert talk.greeting[1:] == [
-        "Up brings back what was typed as a talk was broken off:",
+        COMES_BACK,
         *("change 1", "far", "Noe"),
     ]
     assert talk.end("quit\r").status == 0
@@ -895,7 +908,7 @@ def test_lines_that_were_entered_and_not_answered_come_back_too(
         talk.hang_up()
     talk = talk_about(moon)
     assert talk.greeting[1:] == [
-        "Up brings back what was typed as a talk was broken off:",
+        COMES_BACK,
         *("change 1", "moon is", "sea and the tides are"),
     ]
     assert talk.end("quit\r").status == 0

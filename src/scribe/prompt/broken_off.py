@@ -1,5 +1,6 @@
 """Lines that were being typed as a conversation was broken off, which come back at the next one."""
 
+from collections.abc import Sequence
 from contextlib import AbstractContextManager, suppress
 from pathlib import Path
 from types import TracebackType
@@ -11,7 +12,9 @@ from scribe.prompt.typed_lines import TypedLines
 from scribe.words.console import OutputFailed
 from scribe.words.drafts import not_kept
 
-_COMES_BACK = "Up brings back what was typed as a talk was broken off:"
+_COMES_BACK = (
+    "Up brings back what was typed as a talk was broken off, and Ctrl-C gives it up:"
+)
 
 
 class BrokenOff(AbstractContextManager["BrokenOff"]):
@@ -56,21 +59,23 @@ class BrokenOff(AbstractContextManager["BrokenOff"]):
 
     def answered(self) -> None:
         """Keeps a line no more that is among those just answered, or was typed on to one of them."""
-        typed = tuple(self._conversation.typed)
-        self._conversation.typed.clear()
+        self._leave(self._conversation.typed)
+
+    def given_up(self) -> None:
+        """Keeps a line no more that is among those just given up, or was typed on to one of them."""
+        if self._lines is not None:
+            self._leave([*self._conversation.typed, self._lines.given_up])
+
+    def _leave(self, typed: Sequence[str]) -> None:
         left = tuple(
             each
             for each in self._before
             if not any(line.startswith(each) for line in typed)
         )
+        self._conversation.typed.clear()
         if left != self._before:
             self._before = left
             self._keep(left)
-
-    def forget(self) -> None:
-        """Keeps no line any more: the conversation came to its end."""
-        if self._before:
-            self._keep(())
 
     def _keep(self, lines: tuple[str, ...]) -> None:
         try:

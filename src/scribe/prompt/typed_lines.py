@@ -123,6 +123,8 @@ class TypedLines(AbstractContextManager["TypedLines"]):
         self._prompt: str | None = None
         #: What was typed of a line as a signal, or the end of the terminal, broke it off.
         self.broken_off = ""
+        #: What was typed of the line that was given up last.
+        self.given_up = ""
         # what was typed of the line a moment ago, and whether that is the line which is being typed
         self._noted, self._is_begun = "", False
 
@@ -167,6 +169,7 @@ class TypedLines(AbstractContextManager["TypedLines"]):
             self._break_off()
             raise
         except KeyboardInterrupt:
+            self.given_up = self._readline.get_line_buffer() if self._is_begun else ""
             print()
             raise GivenUp from None
         if is_kept and line:

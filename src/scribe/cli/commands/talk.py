@@ -99,7 +99,6 @@ def run(arguments: Namespace, console: Console) -> Status:
         # what is said of the book is so once it is closed
         session.close()
         tell_end(console, "The book", session.last_version, session.strayed)
-        broken_off.forget()
     return Status.DONE
 
 
@@ -129,6 +128,7 @@ def _talk(conversation: Conversation, file: Path, broken_off: BrokenOff) -> Lost
                 conversation.remind()
         except GivenUp:
             console.show(_GIVEN_UP)
+            broken_off.given_up()
         except Stop as stop:
             console.say(*stop.lines)
             conversation.bring_back()
