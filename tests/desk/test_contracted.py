@@ -677,6 +677,26 @@ def test_a_table_is_made_for_a_text_by_the_command(tmp_path: Path) -> None:
     assert "it is not certified contracted braille" in said
 
 
+def test_a_table_for_a_text_is_replaced_as_it_was_written_and_not_once_it_was_changed(
+    tmp_path: Path,
+) -> None:
+    inputs(tmp_path)
+    words = ("bring", "small.utb", "out.utb", "--for", "text.txt", "--words", "words")
+    cache = {"XDG_CACHE_HOME": str(tmp_path / "cache")}
+    assert scribe(*words, folder=tmp_path, **cache).status == 0
+    table = tmp_path / "out.utb"
+    first = table.read_text()
+    assert scribe(*words, folder=tmp_path, **cache).status == 0
+    assert table.read_text() == first
+    changed = first.replace("\nword be 23\n", "\nword be 12\n")
+    assert changed != first
+    table.write_text(changed)
+    ran = scribe(*words, folder=tmp_path, **cache)
+    said = "out.utb is there already and is no table as scribe bring wrote it, so it was left"
+    assert ran.status == 2 and said in " ".join(ran.said.split())
+    assert table.read_text() == changed
+
+
 def test_a_table_is_made_for_the_paragraphs_of_a_book_that_stand(
     book: Path, tmp_path: Path
 ) -> None:
@@ -720,7 +740,9 @@ def test_lines_of_ones_own_come_after_a_table_for_a_manuscript(tmp_path: Path) -
     assert (
         "1 paragraph wasn't compared, since liblouis lacks characters that" in ran.said
     )
-    assert (tmp_path / "out.utb").read_text().endswith("\ndigit 7 1245\n")
+    assert (
+        "\ndigit 7 1245\n# The sum of these lines" in (tmp_path / "out.utb").read_text()
+    )
 
 
 def test_a_text_that_is_none_is_refused(tmp_path: Path) -> None:
@@ -803,7 +825,8 @@ def test_a_kept_rule_that_no_word_bears_out_is_left_out(tmp_path: Path) -> None:
     (path,) = folder.iterdir()
     with path.open("a") as file:
         file.write("word tab 1-1-1\nmidword qa 1\n")
-    scribe(*words, folder=tmp_path, XDG_CACHE_HOME=cache)
+    again = scribe(*words, folder=tmp_path, XDG_CACHE_HOME=cache)
+    assert again.said.splitlines()[-1].startswith("out.utb was written, ")
     assert (tmp_path / "out.utb").read_text() == first
     assert "word tab 1-1-1" in path.read_text()
 

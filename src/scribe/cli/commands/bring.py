@@ -214,7 +214,7 @@ def _for_manuscript(table: Path, arguments: Namespace, console: Console) -> Stat
         raise Stop(FEW_WORDS)
     text, warned = manuscript_report.text_of(tailored)
     console.say(*warned)
-    return _written(text, arguments, console)
+    return _written(report.with_sum(text), arguments, console)
 
 
 def _manuscript(path: Path, console: Console) -> Manuscript:
