@@ -682,16 +682,16 @@ def test_a_table_for_a_text_is_replaced_as_it_was_written_and_not_once_it_was_ch
 ) -> None:
     inputs(tmp_path)
     words = ("bring", "small.utb", "out.utb", "--for", "text.txt", "--words", "words")
-    cache = {"XDG_CACHE_HOME": str(tmp_path / "cache")}
-    assert scribe(*words, folder=tmp_path, **cache).status == 0
+    cache = str(tmp_path / "cache")
+    assert scribe(*words, folder=tmp_path, XDG_CACHE_HOME=cache).status == 0
     table = tmp_path / "out.utb"
     first = table.read_text()
-    assert scribe(*words, folder=tmp_path, **cache).status == 0
+    assert scribe(*words, folder=tmp_path, XDG_CACHE_HOME=cache).status == 0
     assert table.read_text() == first
     changed = first.replace("\nword be 23\n", "\nword be 12\n")
     assert changed != first
     table.write_text(changed)
-    ran = scribe(*words, folder=tmp_path, **cache)
+    ran = scribe(*words, folder=tmp_path, XDG_CACHE_HOME=cache)
     said = "out.utb is there already and is no table as scribe bring wrote it, so it was left"
     assert ran.status == 2 and said in " ".join(ran.said.split())
     assert table.read_text() == changed
