@@ -2,7 +2,8 @@
 
 import os
 import signal
-from collections.abc import Callable
+from collections.abc import Callable, Iterator
+from contextlib import contextmanager
 from pathlib import Path
 
 import pytest
@@ -35,6 +36,25 @@ def become_stranger(number: int = STRANGER) -> None:
 
 def as_stranger(act: Callable[[], object], number: int = STRANGER) -> str:
     """The name of the exception that an act of the stranger ends by, or nothing."""
+    return _ended(*_begun(act, number))
+
+
+@contextmanager
+def beside_stranger(act: Callable[[], object]) -> Iterator[None]:
+    """A stranger who is there before what is done beside his act, and is seen to end well after it.
+
+    One who began meanwhile would have, until he ends, what is open by then, with its locks.
+    """
+    begun = _begun(act, STRANGER)
+    try:
+        yield
+    finally:
+        how = _ended(*begun)
+    assert how == ""
+
+
+def _begun(act: Callable[[], object], number: int) -> tuple[int, int]:
+    """A process in which the stranger acts, and where the name is read by which he ends."""
     reader, writer = os.pipe()
     child = os.fork()
     if child == 0:
@@ -46,10 +66,17 @@ def as_stranger(act: Callable[[], object], number: int = STRANGER) -> str:
         finally:
             os._exit(0)
     os.close(writer)
+    return child, reader
+
+
+def _ended(child: int, reader: int) -> str:
+    """The name of the exception that an act ended by, or of the signal that ended it, or nothing."""
     with open(reader, "rb") as said:
         name = said.read().decode()
-    os.waitpid(child, 0)
-    return name
+    _, how = os.waitpid(child, 0)
+    return name or (
+        signal.Signals(os.WTERMSIG(how)).name if os.WIFSIGNALED(how) else ""
+    )
 
 
 def lead_to(folder: Path) -> None:

@@ -14,7 +14,6 @@ import sys
 import tempfile
 import time
 from collections.abc import Callable, Iterator
-from concurrent.futures import ThreadPoolExecutor
 from contextlib import closing, contextmanager, suppress
 from pathlib import Path
 from typing import Any, BinaryIO
@@ -57,6 +56,7 @@ from strangers import (
     STRANGER,
     as_stranger,
     become_stranger,
+    beside_stranger,
     in_time,
     lead_to,
 )
@@ -1802,10 +1802,8 @@ def swapped(folder: Path, name: Callable[[], Path], to: Path) -> Iterator[Path]:
             path.rename(f"{path}-kept")
             path.symlink_to(to)
 
-    with ThreadPoolExecutor() as threads:
-        swapping = threads.submit(as_stranger, swap)
+    with beside_stranger(swap):
         yield program
-        assert swapping.result() == ""
     queue.unlink()
 
 
