@@ -260,9 +260,10 @@ def put_in_place(made: Path, target: Place, like: os.stat_result) -> None:
 def give_access(file: int, like: int) -> None:
     """Gives a file the mode of another, and its group and owner if this process may.
 
-    A group that isn't that of the other file gets no more than anybody. If the folder has given the
-    file a list of who may do what with it (ACL), those on that list may do as much with it as with
-    the other file. Nobody may do more with it whom the list of the other file names.
+    A group that isn't that of the other file gets no more than anybody, and then nobody gets more than
+    that of the other file. If the folder has given the file a list of who may do what with it (ACL),
+    those on that list may do as much with it as with the other file. Nobody may do more with it whom
+    the list of the other file names.
     """
     found = os.fstat(like)
     mode, listed = mode_of(like, found), found.st_mode & stat.S_IRWXG
@@ -272,7 +273,7 @@ def give_access(file: int, like: int) -> None:
     try:
         os.fchown(file, -1, found.st_gid)
     except OSError:
-        mode &= ~stat.S_IRWXG | (mode & stat.S_IRWXO) << 3
+        mode &= limit_of_another_group(mode)
     with suppress(OSError):
         os.fchown(file, found.st_uid, -1)
     with suppress(OSError):
@@ -280,6 +281,15 @@ def give_access(file: int, like: int) -> None:
             # what all those may do at most who are on the list that the file has
             mode = mode & ~stat.S_IRWXG | listed
         os.fchmod(file, mode)
+
+
+def limit_of_another_group(mode: int) -> int:
+    """What group and others may do at most with a file that has another group than its mode means.
+
+    Who is in the group that is meant is one of the others there.
+    """
+    both = mode & mode >> 3 & stat.S_IRWXO
+    return ~(stat.S_IRWXG | stat.S_IRWXO) | both << 3 | both
 
 
 def limit_of(like: int | Path, found: os.stat_result, group: int | None = None) -> int:

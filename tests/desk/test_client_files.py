@@ -766,16 +766,21 @@ def test_a_book_is_not_said_to_be_gone_where_no_copy_of_it_can_be_judged(
     )
 
 
-def test_a_group_that_is_not_the_books_may_do_no_more_with_its_copy_than_anybody(
-    book: Path, tmp_path: Path, monkeypatch: pytest.MonkeyPatch
+@pytest.mark.parametrize("mode, wanted", [(0o664, 0o644), (0o604, 0o600)])
+def test_a_group_that_is_not_the_books_may_do_no_more_with_its_copy_than_anybody_nor_they_than_the_books(
+    book: Path,
+    tmp_path: Path,
+    monkeypatch: pytest.MonkeyPatch,
+    mode: int,
+    wanted: int,
 ) -> None:
     def refused(file: int, owner: int, group: int) -> None:
         raise PermissionError(errno.EPERM, "Operation not permitted")
 
     monkeypatch.setattr(os, "fchown", refused)
-    book.chmod(0o664)
+    book.chmod(mode)
     braildesk.copy(book, tmp_path / "copied")
-    assert stat.S_IMODE((tmp_path / "copied").stat().st_mode) == 0o644
+    assert stat.S_IMODE((tmp_path / "copied").stat().st_mode) == wanted
 
 
 def test_where_a_file_system_has_no_such_renaming_a_copy_is_linked(

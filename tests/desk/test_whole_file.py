@@ -66,6 +66,13 @@ def test_a_file_of_ones_own_keeps_its_group_or_gives_another_one_nothing(
     monkeypatch.setattr(os, "fchown", refuse)
     write_whole(file, b"newest")
     assert (file.stat().st_gid, mode(file)) == (os.getegid(), 0o644)
+    # whom the group was refused is one of the others by now
+    file.chmod(0o604)
+    monkeypatch.undo()
+    os.chown(file, -1, STRANGER)
+    monkeypatch.setattr(os, "fchown", refuse)
+    write_whole(file, b"newest")
+    assert (file.stat().st_gid, mode(file)) == (os.getegid(), 0o600)
 
 
 def packed(*listed: tuple[int, int, int]) -> bytes:
@@ -194,8 +201,10 @@ def test_a_new_file_is_for_the_group_of_the_book_or_that_of_the_folder(
 
 
 @NEEDS_ROOT
-@pytest.mark.parametrize("book, wanted", [(0o660, 0o600), (0o664, 0o644)])
-def test_a_group_that_is_not_the_books_gets_no_more_than_others(
+@pytest.mark.parametrize(
+    "book, wanted", [(0o660, 0o600), (0o664, 0o644), (0o604, 0o600), (0o646, 0o644)]
+)
+def test_a_group_that_is_not_the_books_gets_no_more_than_others_nor_they_than_the_books(
     book: int, wanted: int, tmp_path: Path
 ) -> None:
     out = tmp_path / "out"
@@ -209,6 +218,42 @@ def test_a_group_that_is_not_the_books_gets_no_more_than_others(
 
     assert as_stranger(write) == ""
     assert mode(out / "pages.brf") == wanted
+
+
+@NEEDS_ROOT
+def test_others_get_no_more_than_the_group_of_the_book_where_a_folder_gives_another(
+    tmp_path: Path,
+) -> None:
+    os.chown(tmp_path, -1, 7)
+    tmp_path.chmod(0o2755)
+    write_whole(tmp_path / "pages.brf", b"new", Access(0o604, STRANGER))
+    assert mode(tmp_path / "pages.brf") == 0o600
+    write_whole(tmp_path / "own.brf", b"new", Access(0o604, 7))
+    assert mode(tmp_path / "own.brf") == 0o604
+
+
+@NEEDS_ROOT
+@pytest.mark.parametrize("may_give", [True, False])
+def test_a_new_file_is_for_nobody_else_until_it_has_its_group(
+    tmp_path: Path, monkeypatch: pytest.MonkeyPatch, may_give: bool
+) -> None:
+    chown, found = os.fchown, []
+
+    def give(file: int, owner: int, group: int) -> None:
+        found.append(stat.S_IMODE(os.fstat(file).st_mode))
+        if not may_give:
+            raise PermissionError(errno.EPERM, os.strerror(errno.EPERM))
+        chown(file, owner, group)
+
+    monkeypatch.setattr(os, "fchown", give)
+    before = os.umask(0o002)
+    try:
+        write_whole(tmp_path / "pages.brf", b"new", Access(0o660, STRANGER))
+    finally:
+        os.umask(before)
+    assert found == [0o600]
+    assert mode(tmp_path / "pages.brf") == (0o660 if may_give else 0o600)
+    assert os.listdir(tmp_path) == ["pages.brf"]
 
 
 @NEEDS_ROOT

@@ -28,6 +28,7 @@ from braildesk.workshop import (
     is_same,
     limit_group,
     limit_of,
+    limit_of_another_group,
     mode_of,
     set_list,
     sync_names,
@@ -279,19 +280,40 @@ def _write(
     name: str, folder: int, data: bytes, access: Access, kept: Kept | None
 ) -> os.stat_result:
     """Makes a file with these bytes, on the disk, and says what it is."""
-    flags = os.O_WRONLY | os.O_CREAT | os.O_EXCL | os.O_NOFOLLOW | os.O_CLOEXEC
-    created = _OWN if kept is not None else _created(folder, access)
-    with open(os.open(name, flags, created, dir_fd=folder), "wb") as file:
+    mode = _OWN if kept is not None else _allowed(folder, access)
+    with open(_made(name, folder, _OWN), "wb") as file:
         if kept is not None:
             _keep(file.fileno(), kept)
-        elif access.group is not None:
-            with suppress(OSError):
-                limit_group(file.fileno(), access.mode)
-            _take_group(file.fileno(), folder, access.mode, access.group)
+        else:
+            _give(file.fileno(), folder, access, mode)
         file.write(data)
         file.flush()
         os.fsync(file.fileno())
         return os.fstat(file.fileno())
+
+
+def _made(name: str, folder: int, mode: int) -> int:
+    """A new file that is open to be written, with a mode as far as the umask or the folder's list allows."""
+    flags = os.O_WRONLY | os.O_CREAT | os.O_EXCL | os.O_NOFOLLOW | os.O_CLOEXEC
+    return os.open(name, flags, mode, dir_fd=folder)
+
+
+def _allowed(folder: int, access: Access) -> int:
+    """The mode that a new file gets there, as far as the umask or the folder's list allows.
+
+    That is seen by a file without bytes. Who opens one before it has its group reads what is written
+    there later.
+    """
+    mode = _created(folder, access)
+    if not mode & ~_OWN:
+        return mode
+    tried = f".scribe-{os.urandom(8).hex()}"
+    file = _made(tried, folder, mode)
+    try:
+        return os.fstat(file).st_mode & ANYONE
+    finally:
+        os.close(file)
+        remove_from(folder, tried)
 
 
 def _created(folder: int, access: Access) -> int:
@@ -303,15 +325,18 @@ def _created(folder: int, access: Access) -> int:
 
 
 def _keep(file: int, kept: Kept) -> None:
-    """Gives a file the group and the permissions of another; any other group may do no more than others."""
+    """Gives a file the group and the permissions of another; any other group may do no more than others.
+
+    Nor may they do more than the group then.
+    """
     mode, limited = kept.mode, 0o777
     try:
         os.fchown(file, -1, kept.group)
     except OSError:
         if os.fstat(file).st_gid != kept.group:
-            limited = ~stat.S_IRWXG | (mode & stat.S_IRWXO) << 3
+            limited = limit_of_another_group(mode)
     if set_list(file, kept.listed, limited):
-        os.fchmod(file, mode | kept.most)
+        os.fchmod(file, mode & limited | kept.most)
     else:
         os.fchmod(file, mode & limited)
 
@@ -322,20 +347,37 @@ def _group_chosen(folder: int) -> int | None:
     return found.st_gid if found.st_mode & stat.S_ISGID else None
 
 
-def _take_group(file: int, folder: int, mode: int, group: int) -> None:
-    """Gives a new file a group, or else lets its own group do no more than others by the mode.
+def _give(file: int, folder: int, access: Access, mode: int) -> None:
+    """Gives a new file, which is its owner's alone so far, its group, and then what its mode allows.
+
+    Who can't be given its group may do no more than others, nor they more than that group.
+    """
+    if access.group is not None:
+        with suppress(OSError):
+            limit_group(file, access.mode)
+        mode = _take_group(file, folder, access.mode, access.group, mode)
+    if mode & ~_OWN:
+        # a file system without modes says that it gives none
+        with suppress(OSError):
+            os.fchmod(file, mode)
+
+
+def _take_group(file: int, folder: int, meant: int, group: int, mode: int) -> int:
+    """Gives a new file a group, and says its mode, by which another group does no more than is meant.
 
     The group of a folder that gives it to its files is kept: it was chosen for them.
     """
-    made = os.fstat(file)
-    if _group_chosen(folder) is not None or made.st_gid == group:
-        return
+    if os.fstat(file).st_gid == group:
+        return mode
+    if _group_chosen(folder) is not None:
+        return mode & (~stat.S_IRWXO | meant >> 3)
     try:
         os.fchown(file, -1, group)
+        return mode
     except PermissionError:
-        limited = ~stat.S_IRWXG | (mode & stat.S_IRWXO) << 3
-        with suppress(OSError):
-            # the bits of the group would limit all of those on a list
-            if limit_group(file, limited):
-                return
-        os.fchmod(file, made.st_mode & ANYONE & limited)
+        limited = limit_of_another_group(meant)
+    with suppress(OSError):
+        # the bits of the group would limit all of those on a list
+        if limit_group(file, limited):
+            return mode & (limited | stat.S_IRWXG)
+    return mode & limited
