@@ -487,7 +487,11 @@ def test_an_import_of_what_the_shell_handed_over_goes_on_from_a_file(
 ) -> None:
     lines = [f"Line number {number} of the moon." for number in range(1, 2001)]
     (book.parent / "text.txt").write_text("\n".join(lines))
-    words = f"{sys.executable} -m scribe import {book} <(cat text.txt) --lines"
+    (book.parent / "pairs").write_text("moon\tearth\n")
+    words = (
+        f"{sys.executable} -m scribe import {book} <(cat text.txt) --lines --replace"
+        " <(cat pairs)"
+    )
     between = ending(book, "session.pid", "SIGKILL")
     ran = subprocess.run(
         ["bash", "-c", words],
@@ -496,10 +500,11 @@ def test_an_import_of_what_the_shell_handed_over_goes_on_from_a_file(
         capture_output=True,
     )
     found = re.search(
-        "any more, write the whole text to a file, here FILE, and go on by:"
-        rf" scribe import {book} FILE --lines --from (\d+)\n$",
+        "any more, write the whole text to a file, here FILE, and write the pairs to a file, here"
+        rf" PAIRS, and go on by: scribe import {book} FILE --replace PAIRS --lines --from (\d+)\n$",
         ran.stderr.decode(),
     )
     assert ran.returncode == 3 and found is not None
-    assert put(book, "\n".join(lines), "--lines", "--from", found[1]).status == 0
-    assert prints(book) == lines
+    again = ("--replace", "pairs", "--lines", "--from", found[1])
+    assert put(book, "\n".join(lines), *again).status == 0
+    assert prints(book) == [line.replace("moon", "earth") for line in lines]

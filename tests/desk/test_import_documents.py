@@ -554,6 +554,27 @@ def test_an_import_that_is_killed_goes_on_with_headings_and_volumes(
     assert Drafts(book).imports() == ()
 
 
+@pytest.mark.parametrize("name, how", [("poem.md", "--format text "), ("poem.txt", "")])
+def test_a_text_of_which_nothing_is_noted_goes_on_as_it_was_read(
+    book: Path, name: str, how: str
+) -> None:
+    book.with_name(name).write_text("The moon\n\nThe sun\n\nThe star\n")
+    book.with_name("pairs").write_text("moon\tearth\nstar\tsky\n")
+    words = ("import", book, name, "--format", "text", "--replace", "pairs")
+    nowhere = {"XDG_STATE_HOME": "/dev/null"}
+    settings = {**standing_in(2, READ, KILL_PROGRAM), **nowhere}
+    done = scribe(*words, folder=book.parent, given="", before=None, **settings)
+    goes_on = f"import {book} {name} {how}--replace pairs --from 3"
+    assert done.status == 3 and done.said.endswith(
+        f"When nothing stands in the way any more, go on by: scribe {goes_on}\n"
+    )
+    done = scribe(
+        *goes_on.split(), folder=book.parent, XDG_STATE_HOME=nowhere["XDG_STATE_HOME"]
+    )
+    assert done.status == 0
+    assert prints(book) == ["The earth", "The sun", "The sky"]
+
+
 def test_a_document_of_which_nothing_is_noted_goes_on_by_its_paragraphs(
     book: Path,
 ) -> None:

@@ -10,7 +10,7 @@ from types import TracebackType
 from typing import TYPE_CHECKING, Self
 
 from braildesk import After, Refused, Session, translate
-from braildesk.desk.documents.kinds import ManuscriptKind, kind_of
+from braildesk.desk.documents.kinds import ManuscriptKind, is_of_kind, kind_of
 from braildesk.desk.documents.options import BRACKETS, BULLET, ReadingOptions
 from braildesk.desk.drafts import Drafts, NotKept
 from braildesk.desk.earlier import (
@@ -210,6 +210,15 @@ class Importer:
             self._characters = characters_in(whole.data)
             self._session = self._open.enter_context(opened())
         return self._judged()
+
+    @property
+    def job_again(self) -> Import:
+        """The import as it is to be asked for again: without the kind of a text that is found to be one."""
+        job, reading = self.job, self.job.how.reading
+        text = ManuscriptKind.TEXT
+        if reading.kind is text and is_of_kind(job.text.name, self._data, text):
+            reading = replace(reading, kind=None)
+        return replace(job, how=replace(job.how, reading=reading))
 
     def let_go(self) -> None:
         """Lets others have the book, as while a person reads what is lost of the text."""

@@ -118,7 +118,7 @@ def import_in_words(
             typed = importer.type_text(intake, console.progress("paragraphs typed"))
         except CutShort as cut:
             sentence, status = _cut_short(cut)
-            console.say(sentence, *_left(importer.job, intake, cut, again))
+            console.say(sentence, *_left(importer.job_again, intake, cut, again))
             if isinstance(cut.cause, KeyboardInterrupt):
                 raise Interrupted.after(cut.cause) from cut
             return Outcome(status, _part_kept(cut), cut.kept)
@@ -263,8 +263,7 @@ def _left(job: Import, intake: Intake, cut: CutShort, again: str) -> Iterator[st
     from braildesk.text.shell_words import command_line
 
     job = replace(job, book=cut.saved or job.book)
-    kept = cut.done if cut.kept is None else cut.kept
-    least = "at least " if cut.kept is None else ""
+    kept, least = (cut.done, "at least ") if cut.kept is None else (cut.kept, "")
     if kept:
         last, number = intake.passages[kept - 1], intake.there + kept
         where = f"up to line {last.last_line}, which is the end of paragraph {number}"
@@ -289,6 +288,10 @@ def _left(job: Import, intake: Intake, cut: CutShort, again: str) -> Iterator[st
             # which is no way to it for another command
             job = replace(job, text=Path("FILE"))
             then += " write the whole text to a file, here FILE, and"
+        pairs = None if cut.is_noted else job.replacements
+        if pairs is not None and is_handed_over(pairs):
+            job = replace(job, replacements=Path("PAIRS"))
+            then += " write the pairs to a file, here PAIRS, and"
         words = command_line(_command_from(job, intake, kept, cut.is_noted))
         yield Offered(f"{then} go on by:", words)
 
@@ -313,13 +316,16 @@ def _command_from(job: Import, intake: Intake, kept: int, is_noted: bool) -> lis
 
 
 def _choices(job: Import) -> Iterator[str]:
-    """The words that say again how a document is read."""
-    if job.kind.is_document:
+    """The words that say again how a manuscript is read."""
+    if job.how.reading.kind is not None:
         yield from ("--format", job.kind.value)
+    if job.kind.is_document:
         if job.how.reading.notes_at_end:
             yield from ("--notes", "end")
         if job.how.volumes is not None:
             yield from ("--volumes", str(job.how.volumes))
+    if job.replacements is not None:
+        yield from ("--replace", path_word(job.replacements))
 
 
 def _paragraphs(count: int) -> str:
