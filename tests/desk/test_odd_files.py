@@ -203,6 +203,11 @@ def test_no_file_is_written_at_a_path_of_the_system(sample: Path) -> None:
                 f"“{path}” is where the system shows what it has itself, as in /proc and /sys, and no"
                 " book is made there. Take another path for the copy.",
             ),
+            (
+                ["export", "moon.braildesk", path],
+                f"{path} is where the system shows what it has itself, as in /proc and /sys, and no"
+                " folder is made there. Take another path for the folder. Nothing was exported.",
+            ),
         ):
             assert ran(words) == Ran(2, "", f"{said}\n")
     # what a link leads to is another matter

@@ -516,6 +516,27 @@ def test_no_command_puts_a_file_where_the_log_of_a_book_would_be(moon: Path) -> 
     assert set(os.listdir(moon.parent)) - {f"{moon.name}-wal"} == set(before)
 
 
+@pytest.mark.parametrize("more", [(), ("--overwrite",)])
+def test_a_path_that_gets_no_file_is_refused_before_one_is_made(
+    moon: Path, more: tuple[str, ...]
+) -> None:
+    moon.with_name("no.ctb").write_text("what no table has\n")
+    moon.with_name("folder").mkdir()
+    for name, why in (
+        (
+            f"{moon.name}-wal",
+            f"a file of that name would be taken for a part of the book {moon.name}",
+        ),
+        ("folder", "Is a directory"),
+        (moon.name, "a book is there, which was left as it is"),
+    ):
+        # neither a program that opens books is there nor a table that can be brought over
+        for words in (("proof", moon.name, name), ("bring", "./no.ctb", name)):
+            ran = scribe(*words, *more, folder=moon.parent, BRAILDESK="/dev/null")
+            assert (ran.status, ran.shown) == (2, "")
+            assert ran.said == f"{name} could not be written: {why}.\n"
+
+
 @NEEDS_ROOT
 def test_a_file_that_can_not_be_read_may_be_a_book_and_is_not_replaced(
     tmp_path: Path,

@@ -135,8 +135,8 @@ def write_whole(
         os.close(folder)
 
 
-def judge_place(path: Path, replaces: Replaces) -> None:
-    """Raises `AnotherIsThere` as `write_whole` would, before there is anything to write."""
+def judge_place(path: Path, replaces: Replaces | None) -> None:
+    """Raises what `write_whole` would of what stands at a path, before there is anything to write."""
     path = path if path.name else path.resolve()
     try:
         folder = os.open(path.parent, os.O_RDONLY | os.O_DIRECTORY | os.O_CLOEXEC)
@@ -144,6 +144,8 @@ def judge_place(path: Path, replaces: Replaces) -> None:
             _kept_permissions(path.name, folder, replaces)
         finally:
             os.close(folder)
+    except (NoPlaceForAFile, IsADirectoryError):
+        raise
     except OSError:
         # it is said where the file is written
         pass

@@ -17,6 +17,7 @@ from braildesk.desk.export import (
     export_pages,
 )
 from braildesk.desk.ranges import NoPage, PageRange
+from braildesk.opening import is_of_system
 from braildesk.protocol.sentences import of_failure
 from braildesk.workshop import MayNotLast, Swapped
 
@@ -129,6 +130,11 @@ def no_folder(none: NoFolder) -> str:
 def _why_no_folder(none: NoFolder) -> str:
     if isinstance(none.cause, FileExistsError):
         return f"{none.folder} is no folder."
+    if isinstance(none.cause, OSError) and is_of_system(str(none.folder)):
+        return (
+            f"{none.folder} is where the system shows what it has itself, as in /proc and /sys, and no"
+            " folder is made there. Take another path for the folder."
+        )
     if isinstance(none.cause, OSError):
         return f"The folder {none.folder} can't be made: {of_failure(none.cause)}."
     return f"{none.folder} can't be a path, which has no character U+0000."

@@ -140,6 +140,14 @@ def status_of(failure: OSError) -> Status:
     return Status.REFUSED if is_taken else Status.FAILED
 
 
+def file_not_written(file: Path, failure: OSError) -> Stop:
+    """Why a file isn't written."""
+    from braildesk.protocol.sentences import of_failure
+
+    said = f"{file} could not be written: {of_failure(failure)}."
+    return Stop(said, status_of(failure))
+
+
 def may_not_last(file: Path, failure: OSError) -> str:
     """What is so of a file whose name may not outlast a loss of power."""
     from braildesk.protocol.sentences import of_failure

@@ -8,7 +8,6 @@ from braildesk.desk.manuscript import UnreadableText
 from braildesk.desk.manuscripts import read_manuscript
 from braildesk.desk.whole_file import AnotherIsThere, judge_place, write_whole
 from braildesk.named_files import is_same_file
-from braildesk.protocol.sentences import of_failure
 from braildesk.tables.convert import manuscript_report, report
 from braildesk.tables.convert.addition import BadAddition
 from braildesk.tables.convert.conversion import (
@@ -40,7 +39,7 @@ from scribe.cli.parser import (
 )
 from scribe.words.console import Console
 from scribe.words.import_text import unreadable
-from scribe.words.status import Status, Stop, left_there, may_not_last, status_of
+from scribe.words.status import Status, Stop, file_not_written, left_there, may_not_last
 
 MORE = """\
 TABLE is a table that liblouis has, by its name, as de-g0.utb or de-g0, or its title, or a
@@ -193,11 +192,13 @@ def _judge_file(table: Path, arguments: Namespace) -> None:
         raise Stop(
             f"The table would take the place of {file}, from which it is made. Nothing was written."
         )
-    if file is not None and not arguments.overwrite:
+    if file is not None:
         try:
-            judge_place(file, report.is_brought)
+            judge_place(file, None if arguments.overwrite else report.is_brought)
         except AnotherIsThere as taken:
             raise _not_replaced(file, taken) from taken
+        except OSError as error:
+            raise file_not_written(file, error) from error
 
 
 def _not_replaced(file: Path, there: AnotherIsThere) -> Stop:
@@ -301,7 +302,6 @@ def _written(text: str, arguments: Namespace, console: Console) -> Status:
     except MayNotLast as error:
         raise Stop(may_not_last(file, error), Status.FAILED) from error
     except OSError as error:
-        said = f"{file} could not be written: {of_failure(error)}."
-        raise Stop(said, status_of(error)) from error
+        raise file_not_written(file, error) from error
     console.say(f"{file} was written, {text.count(chr(10)):,} lines.")
     return Status.DONE

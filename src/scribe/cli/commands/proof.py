@@ -12,7 +12,6 @@ from braildesk.desk.whole_file import (
     judge_place,
     write_whole,
 )
-from braildesk.protocol.sentences import of_failure
 from braildesk.workshop import MayNotLast
 
 from scribe.cli.opened_book import looked_at
@@ -21,7 +20,7 @@ from scribe.cli.parser import Subparsers, add_file, command_parser, file_path
 from scribe.words.console import Console, OutputFailed
 from scribe.words.pages import not_exported
 from scribe.words.proof_html import Proof, elsewhere, is_proof
-from scribe.words.status import Status, Stop, left_there, may_not_last, status_of
+from scribe.words.status import Status, Stop, file_not_written, left_there, may_not_last
 
 MORE = """\
 PROOF is one file of HTML for any browser: each page as it will be embossed, the print
@@ -72,12 +71,19 @@ def run(arguments: Namespace, console: Console) -> Status:
     """Writes the proof."""
     replaces = None if arguments.overwrite else is_proof
     try:
-        if replaces is not None:
-            judge_place(arguments.proof, replaces)
+        _judge_place(arguments, replaces)
         return _written(arguments, console, replaces)
     except AnotherIsThere as taken:
         said = left_there(arguments.proof, taken, "proof that scribe wrote")
         raise Stop(said) from taken
+
+
+def _judge_place(arguments: Namespace, replaces: Replaces | None) -> None:
+    """Refuses a path that gets no proof, before one is made."""
+    try:
+        judge_place(arguments.proof, replaces)
+    except OSError as error:
+        raise file_not_written(arguments.proof, error) from error
 
 
 def _written(
@@ -106,8 +112,7 @@ def _written(
     except MayNotLast as error:
         raise Stop(may_not_last(arguments.proof, error), Status.FAILED) from error
     except OSError as error:
-        said = f"{arguments.proof} could not be written: {of_failure(error)}."
-        raise Stop(said, status_of(error)) from error
+        raise file_not_written(arguments.proof, error) from error
     count = "1 page" if len(pages) == 1 else f"{len(pages):,} pages"
     others += not_exported((page.volume, page.eight_dots) for page in found)
     try:
