@@ -200,6 +200,20 @@ def test_what_is_not_exported_or_imported_is_said(moon: Path, sit: Sit) -> None:
         assert after_errand(sat, key, path) == [said]
 
 
+def test_no_text_is_imported_from_the_path_of_a_folder_that_is_not_there(
+    moon: Path, sit: Sit
+) -> None:
+    sat, text = sit(moon), moon.with_name("text.txt")
+    text.write_text("The sun\n")
+    sat.press("i")
+    sat.write(f"{text}/")
+    sat.press("enter")
+    assert sat.state.message == (
+        f"{text}/ ends in a slash, as only the path of a folder does. Nothing was typed."
+    )
+    assert len(sat.state.book) == 3
+
+
 def test_a_cell_that_no_embosser_has_is_said(moon: Path, sit: Sit) -> None:
     with Session(moon) as session:
         session.put_table("seven", b"space \\s 0\nletter a 17\n")

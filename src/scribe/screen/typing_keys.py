@@ -28,7 +28,7 @@ from scribe.screen.state import Question, State, Step, answered_with, draft_of
 from scribe.words.pagelook import wanted_line
 from scribe.words.pages import NoSize, described, typed_page_size
 from scribe.words.paragraph import quoted
-from scribe.words.typed import typed_path
+from scribe.words.typed import InvalidInput, given_path, typed_path
 
 _NOTHING_WHILE_TYPING = (
     "That key does nothing here. Enter ends what is typed, Escape gives it up."
@@ -196,8 +196,16 @@ def _answering(state: State, typed: Field) -> Step:
             return Step(*whole_book.pages_typed(state, typed.text))
         case Purpose.FOLDER:
             return Step(state, ExportTo(typed_path(typed.text), state.page_size))
+    return _importing(state, typed.text)
+
+
+def _importing(state: State, word: str) -> Step:
+    try:
+        path = given_path(word)
+    except InvalidInput as refused:
+        return Step(state.saying(f"{refused}. Nothing was typed."))
     place: After = state.paragraph.id if state.paragraph else "end"
-    return Step(state, ImportFrom(typed_path(typed.text), place, state.table))
+    return Step(state, ImportFrom(path, place, state.table))
 
 
 def after(state: State, typed: Field) -> After:
