@@ -1,6 +1,8 @@
 """Proofs of a book for those who read print: what stands on which page, and the page of HTML."""
 
+import os
 import re
+import shutil
 from html.parser import HTMLParser
 from io import BytesIO, StringIO
 from pathlib import Path
@@ -9,7 +11,7 @@ from xml.etree import ElementTree
 
 import pytest
 
-from braildesk import Session, Style
+from braildesk import Session, Style, find
 from braildesk.desk.layout import PageSize
 from braildesk.desk.page_places import PageMap
 from braildesk.desk.proof import ProofLine, ProofPage, ProofWord, proof_pages
@@ -20,7 +22,7 @@ from scribe.cli.commands import proof
 from scribe.words.console import Console
 from scribe.words.proof_html import Proof
 from scribe.words.status import Status
-from tool import ROOT, scribe
+from tool import ROOT, Ran, scribe
 
 
 class Read(HTMLParser):
@@ -425,3 +427,26 @@ def test_whatever_stands_at_the_path_by_then_a_proof_is_for_those_of_the_book_th
     words = ["proof", str(moon), str(made)]
     assert run_words(words, Console(BytesIO(), shown, said)) is Status.DONE
     assert S_IMODE(made.stat().st_mode) == 0o600
+
+
+@pytest.mark.parametrize("is_other, mode", [(True, 0o600), (False, 0o644)])
+def test_a_proof_is_its_owners_alone_where_the_program_has_another_book_open(
+    moon: Path, is_other: bool, mode: int
+) -> None:
+    moon.chmod(0o666)
+    other = shutil.copyfile(moon, moon.with_name("other")) if is_other else moon
+    # as where others put one book in the place of the other while the program opens it
+    program = moon.with_name("program")
+    program.write_text(
+        f'#!/bin/sh\n[ "$1" != session ] || set session -- "{other}"\n'
+        f'exec "{find()}" "$@"\n'
+    )
+    program.chmod(0o755)
+    ran = scribe(
+        *("proof", moon.name, "moon.html"),
+        folder=moon.parent,
+        before=lambda: os.umask(0o022),
+        BRAILDESK=str(program),
+    )
+    assert ran == Ran(0, "moon.html: 1 page.\n", "")
+    assert S_IMODE(moon.with_name("moon.html").stat().st_mode) == mode

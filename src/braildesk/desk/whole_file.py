@@ -87,6 +87,14 @@ class Access(Value):
         mode = mode_of(file, found) & limit_of(file, found, found.st_gid) & ANYONE
         return cls(mode | _OWN, found.st_gid, found.st_mode & most & stat.S_IRWXG, most)
 
+    @classmethod
+    def read_by(cls, process: int, file: int) -> "Access":
+        """That of an open file which a process reads; its owner's alone if it has another one open.
+
+        Others may have put that in the place of the file while the process opened it.
+        """
+        return cls.of(file) if _is_read_by(process, file) else cls(_OWN)
+
 
 @dataclass(frozen=True, eq=False, repr=False)
 class Kept(Value):
@@ -105,6 +113,20 @@ class Kept(Value):
         most = found.st_mode & ANYONE & stat.S_IRWXG
         listed = tuple(access_list(file))
         return cls(mode_of(file, found) & ANYONE, found.st_gid, listed, most)
+
+
+def _is_read_by(process: int, file: int) -> bool:
+    """Whether a process has a file open, or no other than what lies beside it, as far as the system says."""
+    like, others = os.fstat(file), False
+    with suppress(OSError):
+        for name in os.listdir(f"/proc/{process}/fd"):
+            path = f"/proc/{process}/fd/{name}"
+            found = os.stat(path)
+            if os.path.samestat(found, like):
+                return True
+            is_beside = int(name) <= 2 or book_beside(os.readlink(path)) is not None
+            others |= stat.S_ISREG(found.st_mode) and not is_beside
+    return not others
 
 
 def write_whole(

@@ -129,7 +129,8 @@ class Files:
             left = open_marks(session) - sum(each.open_marks for each in pages)
             text = "".join(proof.html(pages)).encode()
             try:
-                write_whole(file, text, Access.of(session.fileno()))
+                access = Access.read_by(session.pid, session.fileno())
+                write_whole(file, text, access)
             except MayNotLast as failed:
                 raise Stop(may_not_last(file, failed)) from failed
             except OSError as failed:
