@@ -1330,6 +1330,32 @@ def test_the_work_in_a_log_stays_whenever_its_making_anew_is_killed(
 
 
 @NEEDS_ROOT
+@pytest.mark.parametrize("mode", [0o660, 0o600])
+def test_who_is_not_in_the_group_of_a_book_of_ones_own_is_told_so_where_its_log_is_for_that(
+    book: Path, tmp_path: Path, mode: int
+) -> None:
+    log = Path(f"{book}-wal")
+    log.touch()
+    for path, owner, its in ((book, STRANGER, 0o660), (log, STRANGER - 1, mode)):
+        os.chown(path, owner, STRANGER - 2)
+        path.chmod(its)
+    lead_to(tmp_path)
+    tmp_path.chmod(0o1777)
+
+    def open_it() -> None:
+        with pytest.raises(CannotOpen) as caught:
+            Session(book).close()
+        assert caught.value.why is Why.LOG_DENIED
+        told = (
+            f"“{log}” is for the group of “{book}”, which is your own, and you aren't in that group."
+            " Ask an administrator to put you into it, and log in again."
+        )
+        assert caught.value.sentence.endswith(told) is (mode == 0o660)
+
+    assert as_stranger(open_it) == ""
+
+
+@NEEDS_ROOT
 @pytest.mark.parametrize("has_work", [False, True])
 def test_nothing_is_written_to_a_log_that_more_may_read_and_its_folder_keeps(
     book: Path, tmp_path: Path, has_work: bool

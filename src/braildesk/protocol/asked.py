@@ -159,6 +159,20 @@ def own_closed(path: str) -> str | None:
     return None
 
 
+def is_left_out(path: str) -> bool:
+    """Whether a book is this user's own, and its log is for the group of the book, in which they aren't."""
+    path, own = real_path(path), (os.getegid(), *os.getgroups())
+    try:
+        book, log = os.stat(path), os.stat(log_path(path))
+        # by a list of access the group may have less than the mode says
+        has_list = "system.posix_acl_access" in os.listxattr(log_path(path))
+    except OSError:
+        return False
+    is_of_group = log.st_gid == book.st_gid and log.st_mode & 0o060 == 0o060
+    is_own = book.st_uid == os.geteuid() != log.st_uid
+    return is_own and is_of_group and book.st_gid not in own and not has_list
+
+
 def held(path: str) -> str | None:
     """The file at a path, or else its folder, if the system lets nobody change that, whatever its mode is."""
     file = real_path(path)

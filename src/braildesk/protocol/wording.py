@@ -15,6 +15,7 @@ from braildesk.protocol.asked import (
     Refusal,
     TableFile,
     held,
+    is_left_out,
     journal_path,
     log_path,
     own_closed,
@@ -233,6 +234,11 @@ class _Fields:
         log = log_path(path)
         if own_closed(log) == log:
             return self._own_closed("That file", "read and write it", "u+rw", log)
+        if is_left_out(path):
+            return (
+                f"{self.log} is for the group of {self.path}, which is your own, and you aren't in that"
+                " group. Ask an administrator to put you into it, and log in again."
+            )
         return f"Ask who owns {self.log}, or an administrator, for leave to do so."
 
     def _own_closed(self, what: str, do: str, mode: str, path: str) -> str:
