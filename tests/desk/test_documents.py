@@ -431,6 +431,12 @@ def test_words_that_are_there_as_often_are_not_missing() -> None:
     assert missing(["soft\u00adhyphen"], ["softhyphen"]) == []
 
 
+def test_a_word_that_is_missing_is_shown_as_it_stands_in_the_file() -> None:
+    assert missing(["by xhtml11 and word1"], ["by and word 1"]) == [
+        Missing("xhtml11", "by", "and word 1")
+    ]
+
+
 OLE = b"\xd0\xcf\x11\xe0\xa1\xb1\x1a\xe1"
 #: A page of which Word has encrypted the package, and one that it has saved for its older versions.
 ENCRYPTED = OLE + bytes(500) + "EncryptedPackage".encode("utf-16-le")

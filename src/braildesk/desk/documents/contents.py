@@ -364,11 +364,11 @@ class _Rest:
 
 
 def _parted(words: Iterable[str], there: Counter[str]) -> list[str]:
-    """Some words, of which those that aren't there are parted from the number of a note after them."""
+    """Some words, of which those that aren't there are parted from the number of a note after them, if they are then."""
     parted: list[str] = []
     for word in words:
         found = None if there[word] else _NUMBERED.fullmatch(word)
-        parted += found.groups() if found else [word]
+        parted += found.groups() if found and there[found[1]] > 0 else [word]
     return parted
 
 
