@@ -1471,6 +1471,20 @@ def test_a_sheet_is_imported_for_print_before_its_own_rules_and_from_a_page(
     assert lost(found, LossKind.NUMBER) == ["Two"]
 
 
+@pytest.mark.parametrize("media, words", [("screen", []), ("Print, tv", ["One"])])
+def test_a_sheet_that_is_not_for_print_says_nothing_of_a_page_that_has_it_or_links_to_it(
+    tmp_path: Path, media: str, words: list[str]
+) -> None:
+    path, its = tmp_path / "moon.epub", f"media='{media}'"
+    link = f"<link rel='stylesheet' href='a.css' {its}/>"
+    for head in (link, f"<style {its}>@import 'a.css';</style>"):
+        assert lost(of_sheets(path, {"a.css": NONE}, head), LossKind.LIST) == words
+        # nor is one missed that isn't there
+        assert len(lost(of_sheets(path, {}, head), LossKind.STYLES)) == len(words)
+    head = f"<style {its}>ol {{{{ list-style: none }}}}</style>"
+    assert lost(of_sheets(path, {}, head), LossKind.LIST) == words
+
+
 def test_sheets_that_import_others_without_end_or_have_too_many_rules_are_not_read(
     tmp_path: Path, monkeypatch: pytest.MonkeyPatch
 ) -> None:

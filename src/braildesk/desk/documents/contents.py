@@ -749,6 +749,8 @@ class _Html(Tags):
         #: The numbers of the texts before which a sheet counts.
         self._counted: list[int] = []
         self._sheet = Sheet(effort)
+        #: Whether the sheet of the page itself that was begun last is for print.
+        self._is_for_print = True
         #: The elements that are open.
         self._path: list[PageElement] = []
         #: How many of them have each tag.
@@ -885,7 +887,7 @@ class _Html(Tags):
             self._end_reading()
 
     def handle_data(self, data: str) -> None:
-        if self._path and self._path[-1].tag == "style":
+        if self._path and self._path[-1].tag == "style" and self._is_for_print:
             for address in imports_of(data):
                 self._add_sheet(address, "all")
             self._sheet.add(rules_of(data))
@@ -914,6 +916,9 @@ class _Html(Tags):
                 self._leave("li")
         elif self._path and (last := self._path[-1].tag) in _ENDED_BY.get(tag, ()):
             self._leave(last)
+        if tag == "style":
+            media = attributes.get("media") or "all"
+            self._is_for_print = _FOR_PRINT.search(media) is not None
         if tag not in self._VOID:
             classes = frozenset((attributes.get("class") or "").split())
             self._path.append(PageElement(tag, attributes.get("id") or "", classes))
@@ -975,9 +980,11 @@ class _Html(Tags):
             self._add_sheet(address or "", media or "all")
 
     def _add_sheet(self, address: str, media: str) -> None:
-        """Adds the rules of a sheet for some media, if it is read."""
+        """Adds the rules of a sheet for some media, if it is for print and is read."""
+        if not _FOR_PRINT.search(media):
+            return
         rules = self._linked(address)
-        if rules is None and address and _FOR_PRINT.search(media):
+        if rules is None and address:
             self.unread[address] = None
         if rules is not None:
             self._sheet.link(rules)
