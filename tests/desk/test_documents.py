@@ -2315,6 +2315,17 @@ def test_paragraphs_of_a_list_beside_its_items_are_typed_without_bullets() -> No
     assert found.missing == ()
 
 
+def test_items_keep_their_marks_around_a_list_that_stands_beside_them() -> None:
+    body = (
+        "<ul><ul><li>one</ul><li>two</ul><ol start=3><li>three</li><ol><li>four</li></ol><li>five</ol>"
+        "<ul><li>six</li><dl><dt>seven<dd>eight</dl><li>nine</ul>"
+    )
+    found = read_document(f"<html>{body}</html>".encode(), ManuscriptKind.HTML)
+    texts = "\u2022 one|\u2022 two|3. three|1. four|4. five|\u2022 six|seven|eight|\u2022 nine"
+    assert found.texts == texts.split("|")
+    assert (found.missing, found.losses) == ((), ())
+
+
 def test_an_item_of_a_list_keeps_its_number_whatever_it_begins_with() -> None:
     page = (
         "<html><ol><li><table><tr><td>a<td>b<tr><td>c<td>d</table><li><h2>Head</h2>"

@@ -77,9 +77,9 @@ _LINES = "pre"
 _TEMPLATE = "template"
 
 
-#: Lists, and paragraphs of which pandoc reads none beside the items of one.
+#: Lists, and what pandoc doesn't read beside the items of one: paragraphs, and lists, with which it ends the other.
 _LISTS, _ITEM = frozenset({"ol", "ul"}), "li"
-_BESIDE_ITEMS = frozenset("h1 h2 h3 h4 h5 h6 p pre".split())
+_BESIDE_ITEMS = _LISTS | frozenset("dl h1 h2 h3 h4 h5 h6 p pre".split())
 
 
 @dataclass(slots=True)
