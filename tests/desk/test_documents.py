@@ -869,6 +869,39 @@ def test_a_byte_that_is_not_so_encoded_is_seen_and_changes_no_other_character(
     assert read_document(head + page, ManuscriptKind.HTML).texts == [text]
 
 
+@pytest.mark.parametrize(
+    "said, encoding, shown",
+    [
+        ("", "cp1251", ["Ëóíà é ñâåò"]),
+        ("<meta charset=utf-8>", "cp1251", ["Ëóíà é ñâåò"]),
+        ("<meta charset=none>", "cp1251", ["Ëóíà é ñâåò"]),
+        ("<meta charset=windows-1251>", "cp1251", []),
+        ("", "utf-8", []),
+    ],
+)
+def test_a_page_whose_encoding_is_guessed_is_noted_by_words_that_may_be_others(
+    tmp_path: Path, said: str, encoding: str, shown: list[str]
+) -> None:
+    body = "<title>Луна</title><p>The&nbsp;Moon</p><p>Луна <a href='#x'>&eacute;</a> свет</p>"
+    page = f"<html><head>{said}</head><body>{body}</body></html>".encode(encoding)
+    found = read_document(page, ManuscriptKind.HTML)
+    assert lost(found, LossKind.GUESSED) == shown
+    its = book_of(tmp_path / "moon.epub", "a b", {"a": page, "b": page})
+    assert lost(read_manuscript(its), LossKind.GUESSED) == shown * 2
+    if shown:
+        lines = report_lines(tmp_path, Taken((), (), found))
+        assert lines[1:3] == [
+            "1 page is neither in UTF-8 nor in an encoding that it names, and is read as windows-1252: its letters may"
+            " be others:",
+            f"- “{shown[0]}”",
+        ]
+
+
+def test_no_encoding_of_a_page_is_noted_that_has_other_letters_in_no_print() -> None:
+    page = "<html><title>Größe</title><!-- ü --><p>The moon</p></html>".encode("cp1252")
+    assert read_document(page, ManuscriptKind.HTML).losses == ()
+
+
 def test_a_container_of_epub_that_names_no_book_is_damaged(tmp_path: Path) -> None:
     parts = {"mimetype": EPUB, "META-INF/container.xml": NO_BOOK}
     with pytest.raises(NoDocument) as found:

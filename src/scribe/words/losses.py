@@ -50,6 +50,12 @@ _SAID = {
         "1 page of the file can't be read in any encoding, and is left out",
         "{} pages of the file can't be read in any encoding, and are left out",
     ),
+    LossKind.GUESSED: (
+        "1 page is neither in UTF-8 nor in an encoding that it names, and is read as windows-1252: its letters may be"
+        " others",
+        "{} pages are neither in UTF-8 nor in an encoding that they name, and are read as windows-1252: their letters"
+        " may be others",
+    ),
     LossKind.UNSEEN: (
         "1 document is of a form whose words can't be compared: some may be left out, and dates be new ones",
         "{} documents are of a form whose words can't be compared: some may be left out, and dates be new ones",

@@ -40,6 +40,7 @@ from braildesk.desk.documents.markup import (
     Tags,
     characters_of_page,
     field_words,
+    is_guessed,
     words_beside,
 )
 from braildesk.desk.documents.notes import leads_back
@@ -58,11 +59,13 @@ from braildesk.desk.documents.sheets import (
     own_values,
     rules_of,
 )
+from braildesk.desk.documents.tree import words_around
 from braildesk.desk.manuscript import UnreadableText
 
 #: How many characters are shown of a table of contents, of a page, or of an item of a list.
 _SHOWN = 60
 _WORD = re.compile(r"\w+(?:[’'\u2010\u2011-]\w+)*")
+_OTHER_LETTER = re.compile(r"[^\x00-\x7f\s]")
 _NUMBERED = re.compile(r"([^_]*[^\W\d_])(\d{1,4})")
 #: The numbers of lists that pandoc knows, by what a list says of its type; and those of style sheets.
 _TYPES = {
@@ -194,6 +197,14 @@ class Contents:
         if page.has_more_rules:
             first = _first(page.passages)
             self.losses.append(Loss(LossKind.RULES, first, first))
+
+    def note_guess(self, passages: Sequence[str]) -> None:
+        """Notes that the encoding of a page is guessed, by the first words that may be others, if there are any."""
+        for text in (each.replace(_SEAM, "") for each in passages):
+            if found := _OTHER_LETTER.search(text):
+                around = words_around(text, found.start(), found.end())
+                self.losses.append(Loss(LossKind.GUESSED, around, around))
+                return
 
     def note_unread(self, sheets: Mapping[str, str]) -> None:
         """Notes the addresses of style sheets that weren't read, by their parts, each once."""
@@ -660,7 +671,7 @@ def _of_epub(container: zipfile.ZipFile, found: Contents) -> None:
         found.lose(LossKind.ABSENT, part)
     for page in package.pages():
         try:
-            text = characters_of_page(part_of(container, page.part))
+            text = characters_of_page(data := part_of(container, page.part))
         except UnreadableText:
             found.lose(LossKind.UNREAD, page.part)
             continue
@@ -673,6 +684,8 @@ def _of_epub(container: zipfile.ZipFile, found: Contents) -> None:
             continue
         found.passages += read.lists
         found.note_page(read, page.part)
+        if is_guessed(data):
+            found.note_guess(read.passages)
         if not page.is_in_order:
             found.lose(LossKind.ASIDE, _first(read.passages))
     found.note_unread(sheets.absent)

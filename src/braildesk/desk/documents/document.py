@@ -34,7 +34,11 @@ from braildesk.desk.documents.markdown_notes import (
     without_marks,
 )
 from braildesk.desk.documents.markdown_tables import check_tables
-from braildesk.desk.documents.markup import characters_of_page, characters_of_text
+from braildesk.desk.documents.markup import (
+    characters_of_page,
+    characters_of_text,
+    is_guessed,
+)
 from braildesk.desk.documents.notes import with_notes
 from braildesk.desk.documents.numbers import with_numbers
 from braildesk.desk.documents.numbers_of_odt import with_odt_numbers
@@ -66,6 +70,7 @@ def read_document(
     name: str = "",
 ) -> Manuscript:
     """The manuscript that the bytes of a document of some name are; raises `UnreadableText`."""
+    is_guess = False
     if kind in _PACKED:
         data = repacked(data)
     if kind in (ManuscriptKind.RTF, ManuscriptKind.DOC):
@@ -75,10 +80,14 @@ def read_document(
     if kind in (ManuscriptKind.MARKDOWN, ManuscriptKind.HTML):
         is_page = kind is ManuscriptKind.HTML
         text = characters_of_page(data) if is_page else characters_of_text(data)
+        is_guess = is_page and is_guessed(data)
         data = pages.with_line_feeds(text).encode()
     if kind is ManuscriptKind.ODT:
         return _read_odt(data, reading, name)
-    return _read(data, kind, contents.contents_of(data, kind), reading)
+    own = contents.contents_of(data, kind)
+    if is_guess:
+        own.note_guess(own.passages)
+    return _read(data, kind, own, reading)
 
 
 def _by_office(

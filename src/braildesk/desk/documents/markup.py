@@ -27,6 +27,8 @@ _OF_NO_PAGE = re.compile(
 )
 #: Encodings that many pages name from of old which are in UTF-8: no text in them is that by chance.
 _OF_ONE_BYTE = re.compile(r"(iso[-_]?8859|windows[-_]?125|cp125|latin).*")
+#: In which many pages are that say nothing of it.
+_USUAL = "cp1252"
 _MARKS = ((b"\xff\xfe", "utf-16"), (b"\xfe\xff", "utf-16"), (b"", "utf-8-sig"))
 
 #: The elements that part paragraphs, as pandoc has them: all others stand within a line.
@@ -121,12 +123,21 @@ def characters_of_page(data: bytes) -> str:
 
     pandoc takes what isn't UTF-8 for Latin 1, with a warning.
     """
+    return _said(data) or _strictly(data, [_USUAL]) or decoded(data)
+
+
+def is_guessed(data: bytes) -> bool:
+    """Whether a page is read in an encoding that it doesn't name, and isn't in UTF-8."""
+    return not data.isascii() and not _said(data)
+
+
+def _said(data: bytes) -> str | None:
+    """The characters of a page in an encoding that it names, or in UTF-8."""
     names = [_own_name(data)]
     if named := _said_name(data):
         place = len(names) if _OF_ONE_BYTE.fullmatch(named) else 0
         names.insert(place, _WIDER.get(named, named))
-    found = _strictly(data, names) or _mostly(data, names)
-    return found or _strictly(data, ["cp1252"]) or decoded(data)
+    return _strictly(data, names) or _mostly(data, names)
 
 
 def characters_of_text(data: bytes) -> str:

@@ -56,6 +56,7 @@ class LossKind(Enum):
     ASIDE = auto()
     REPEATED = auto()
     UNREAD = auto()
+    GUESSED = auto()
     UNSEEN = auto()
     ABSENT = auto()
     EMBEDDED = auto()
