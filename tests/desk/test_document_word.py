@@ -13,6 +13,7 @@ from braildesk.desk.manuscripts import read_manuscript
 from handmade import (
     docx,
     in_list,
+    inserted,
     level,
     lists,
     note,
@@ -345,6 +346,23 @@ def test_a_paragraph_is_noted_that_is_in_italics_by_its_style(tmp_path: Path) ->
         "In Letter",
         "In LetterEnd",
     ]
+
+
+def test_words_that_are_plain_in_an_emphasized_paragraph_are_not_noted_and_tabs_part_the_others(
+    tmp_path: Path,
+) -> None:
+    off, tab = '<w:b w:val="0"/>', "<w:r><w:tab/></w:r>"
+    body = paragraph(
+        run("One"), tab, run("two "), run("three ", off), run("four", '<w:b w:val="1"/>'),
+        "<w:r><w:br/><w:t>five</w:t></w:r>", text_box(paragraph(run("six"))), inserted("seven"),
+        f"<w:moveFrom>{run('eight')}</w:moveFrom>", style="Warning",
+    )  # fmt: skip
+    body += paragraph(run("Nine", off), style="Warning")
+    body += paragraph(run("Ten", f"{off}<w:i/>"), run("eleven", off), style="Both")
+    styles = style("Warning", "Body", "<w:b/>") + style("Both", "Warning", "<w:caps/>")
+    found = read_manuscript(docx(tmp_path / "a.docx", body, styles=styles))
+    losses = [loss.words for loss in found.losses if loss.what is LossKind.EMPHASIS]
+    assert sorted(losses) == ["One two", "Ten", "Teneleven", "four", "four fiveseven"]
 
 
 def test_words_at_the_edges_of_pages_are_missing_there_and_not_in_the_text(

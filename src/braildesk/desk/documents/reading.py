@@ -1,9 +1,10 @@
 """What is read of a manuscript: its paragraphs, and all of it that they don't have."""
 
 import re
-from collections.abc import Iterator
+from collections.abc import Iterable, Iterator
 from dataclasses import dataclass, replace
 from enum import Enum, auto
+from itertools import chain, islice
 from typing import TypeVar
 
 from braildesk.desk.documents.kinds import ManuscriptKind
@@ -14,6 +15,8 @@ from braildesk.text.sequences import sequences
 _BLANKS = re.compile(
     r"[ \t\r\f\v\u00a0\u1680\u2000-\u200a\u202f\u205f\u3000]+", re.ASCII
 )
+#: How many characters are shown of words that are emphasized, and how many texts of a paragraph are looked at for them.
+_SHOWN, _FRONT = 60, 1_000
 #: What only says where a line may end or may not.
 _UNSEEN = re.compile("[\u00ad\u200b\u2060\ufeff]")
 _Usual = TypeVar("_Usual", int, None)
@@ -129,6 +132,18 @@ def whole(text: str | None, usual: _Usual) -> int | _Usual:
 def plain(text: str) -> str:
     """A text as a print has it: with one blank for several, and none around it."""
     return _BLANKS.sub(" ", _UNSEEN.sub("", text)).strip(" \n")
+
+
+def emphases(texts: Iterable[tuple[str, bool]]) -> Iterator[Loss]:
+    """The emphases of a paragraph, by its texts, of which each is emphasized or isn't, in their order."""
+    run = ""
+    for text, is_emphasized in chain(islice(texts, _FRONT), [(".", False)]):
+        if is_emphasized or not text.strip():
+            run += text[:_FRONT]
+            continue
+        if shown := plain(run.replace("\n", " "))[:_SHOWN]:
+            yield Loss(LossKind.EMPHASIS, shown, shown)
+        run = ""
 
 
 def short_enough(part: Part) -> Iterator[Part]:

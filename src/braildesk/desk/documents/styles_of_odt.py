@@ -5,13 +5,12 @@ styles that are based on each other, or on one that isn't there, and none of who
 """
 
 import re
-from collections.abc import Collection, Iterable, Iterator, Mapping
+from collections.abc import Collection, Iterator, Mapping
 from copy import deepcopy
-from itertools import islice
 from xml.etree import ElementTree
 from xml.etree.ElementTree import Element, SubElement
 
-from braildesk.desk.documents.reading import Loss, LossKind, plain
+from braildesk.desk.documents.reading import Loss, emphases
 
 _STYLE = "{urn:oasis:names:tc:opendocument:xmlns:style:1.0}"
 _FO = "{urn:oasis:names:tc:opendocument:xmlns:xsl-fo-compatible:1.0}"
@@ -30,8 +29,6 @@ _DEEPEST = 50
 #: The styles of headings and of heads of columns, which are bold as such.
 _HEADS = re.compile(r"(.*_20_)?heading(_20_\d+)?|title", re.IGNORECASE)
 _WEIGHT, _PLAIN = f"{_FO}font-weight", "normal"
-#: How many characters are shown of a paragraph, and how many of its texts are looked at for them.
-_SHOWN, _FRONT = 60, 1_000
 #: What words that are emphasized, or stand above or below the line, have by their style.
 _EMPHASIS = (
     *(f"{_FO}{name}" for name in ("font-style", "font-weight", "font-variant")),
@@ -69,21 +66,7 @@ def emphasized(root: Element, *others: Element) -> Iterator[Loss]:
         emphasis = styles.emphasis(paragraph.get(f"{_TEXT}style-name", ""))
         if id(paragraph) in gone or not _is_any(emphasis, _WHOLE):
             continue
-        for run in _runs(islice(_texts(paragraph, emphasis, words), _FRONT)):
-            if shown := plain(run.replace("\n", " "))[:_SHOWN]:
-                yield Loss(LossKind.EMPHASIS, shown, shown)
-
-
-def _runs(texts: Iterable[tuple[str, bool]]) -> Iterator[str]:
-    """Texts that are emphasized, with blanks between them."""
-    run = ""
-    for text, is_emphasized in texts:
-        if text.strip() and not is_emphasized:
-            yield run
-            run = ""
-        else:
-            run += text[:_FRONT]
-    yield run
+        yield from emphases(_texts(paragraph, emphasis, words))
 
 
 def _texts(

@@ -8,14 +8,14 @@ that a row may begin at a later column than others.
 
 import re
 from bisect import bisect_right
-from collections.abc import Iterator, Mapping, Sequence
+from collections.abc import Iterable, Iterator, Mapping, Sequence
 from dataclasses import dataclass
 from itertools import accumulate
 from xml.etree.ElementTree import Element
 from xml.sax.saxutils import escape, quoteattr
 
 from braildesk.desk.documents.field_codes import UNSEEN, shown_of_code
-from braildesk.desk.documents.reading import Loss, LossKind, plain, whole
+from braildesk.desk.documents.reading import Loss, LossKind, emphases, plain, whole
 from braildesk.desk.documents.table_places import Places
 
 _W = "{http://schemas.openxmlformats.org/wordprocessingml/2006/main}"
@@ -55,6 +55,8 @@ _TABLE_HEAD = re.compile("table heading", re.IGNORECASE)
 #: The emphasis of whole paragraphs by their styles.
 _BOLD = "b"
 _WHOLE = ("i", _BOLD, "caps", "smallCaps")
+#: What parts the words of a run.
+_PARTING = tuple(f"{_W}{name}" for name in ("tab", "ptab", "br", "cr"))
 #: Words that Word computes where they stand: the number of a page, and parts of a date.
 _COMPUTED = (
     f"{_W}pgNum",
@@ -233,21 +235,36 @@ class _Fronts:
 
 
 def emphasized(root: Element, styles: Element) -> Iterator[Loss]:
-    """The paragraphs of a part that are in italics, bold or capitals as a whole by their style, but headings."""
+    """The paragraphs of a part that are in italics, bold or capitals by their style, but headings and the words in them
+    that are plain by themselves.
+    """
     known = {
         each.get(f"{_W}styleId", ""): _style(each) for each in styles.iter(f"{_W}style")
     }
-    their = {name for name in known if _is_emphasized(name, known)}
+    their = {name: found for name in known if (found := _emphasis(name, known))}
     if not their:
         return
     gone = {id(each) for tag in GONE for part in root.iter(tag) for each in part.iter()}
     for paragraph in root.iter(f"{_W}p"):
         style = paragraph.find(f"{_W}pPr/{_W}pStyle")
-        if style is None or style.get(f"{_W}val") not in their:
-            continue
-        words = plain("".join(each.text or "" for each in paragraph.iter(f"{_W}t")))
-        if words and id(paragraph) not in gone:
-            yield Loss(LossKind.EMPHASIS, words[:_SHOWN], words[:_SHOWN])
+        emphasis = None if style is None else their.get(style.get(f"{_W}val", ""))
+        if emphasis and id(paragraph) not in gone:
+            runs = (each for each in paragraph.iter(_RUN) if id(each) not in gone)
+            yield from emphases(_texts(runs, emphasis))
+
+
+def _texts(runs: Iterable[Element], emphasis: set[str]) -> Iterator[tuple[str, bool]]:
+    """The texts of the runs of a paragraph, and whether each has any of its emphasis."""
+    for run in runs:
+        properties = run.find(f"{_W}rPr")
+        said = [] if properties is None else [*properties]
+        off = {each.tag for each in said if each.get(f"{_W}val") in _OFF}
+        is_emphasized = any(f"{_W}{tag}" not in off for tag in emphasis)
+        for each in run:
+            if each.tag == f"{_W}t":
+                yield each.text or "", is_emphasized
+            elif each.tag in _PARTING:
+                yield " ", is_emphasized
 
 
 def _style(style: Element) -> _Style:
@@ -265,17 +282,17 @@ def _style(style: Element) -> _Style:
     return _Style(_HEADING.match(named) is not None, base, said)
 
 
-def _is_emphasized(name: str, known: Mapping[str, _Style]) -> bool:
-    """Whether a style of paragraphs, or the next one it is based on that says so, has such emphasis."""
+def _emphasis(name: str, known: Mapping[str, _Style]) -> set[str]:
+    """The emphasis of a style of paragraphs, or of the next one it is based on that says so."""
     said: dict[str, bool] = {}
     for _ in range(_DEEPEST):
         if name not in known:
             break
         if known[name].is_heading:
-            return False
+            return set()
         said = {**known[name].said, **said}
         name = known[name].base
-    return any(said.values())
+    return {tag for tag, is_on in said.items() if is_on}
 
 
 def _symbols(root: Element) -> dict[int, str]:
