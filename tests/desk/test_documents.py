@@ -2629,6 +2629,37 @@ def test_a_paragraph_of_a_page_is_noted_that_a_sheet_alone_emphasizes_but_headin
     assert sorted(lost(found, LossKind.EMPHASIS)) == sorted(emphasized)
 
 
+def test_words_that_are_plain_in_what_a_sheet_emphasizes_on_a_page_are_not_noted() -> (
+    None
+):
+    sheet = ".bold { font-weight: bold } .it { font-style: italic } .line { text-decoration: underline }"
+    sheet += " .plain { font-weight: normal; text-decoration: none }"
+    body = (
+        "<p class=bold>one<span class=plain> two </span>three<p class='bold it'>four <span class=plain>five</span>"
+        "<p class=bold><span class=plain>six <i>seven</i></span><p class=line>eight <span class=plain>nine</span>"
+        "<p class=bold>ten <span class=bold>eleven <span class=plain>twelve <em class=plain>thirteen</em></span></span>"
+        "<span class=plain>x<p class=bold>fourteen <span class=plain>y"
+    )
+    page = f"<html><head><style>{sheet}</style></head><body>{body}</body></html>"
+    found = read_document(page.encode(), ManuscriptKind.HTML)
+    emphasized = (
+        "one|three|four five|seven|eight nine|ten eleven|eleven|fourteen|thirteen"
+    )
+    assert sorted(lost(found, LossKind.EMPHASIS)) == sorted(emphasized.split("|"))
+    around = {each.words: each.around for each in found.losses}
+    assert around["three"] == "one two three"
+
+
+def test_a_page_with_very_many_plain_words_in_what_is_emphasized_takes_little_time() -> (
+    None
+):
+    bold, plain = "<span style=font-weight:bold>", "<span style=font-weight:400>"
+    page = f"<html><p>{f'{bold}a{plain}b' * 5_000}{bold * 5_000}{(plain + 'c</span>') * 5_000}</html>"
+    start = time.process_time()
+    contents.contents_of(page.encode(), ManuscriptKind.HTML)
+    assert time.process_time() - start < WAIT_SECONDS
+
+
 @pytest.mark.parametrize(
     "properties, plain",
     [

@@ -959,15 +959,13 @@ class _Html(Tags):
     def _note_emphasis(
         self, tag: str, attributes: Mapping[str, str | None], shown: Mapping[str, str]
     ) -> None:
-        """Notes of an element how it is shown, whose text is the next one if it is a block."""
+        """Notes of an element how it is shown."""
         classes = (attributes.get("class") or "").split()
         own = frozenset((*classes, *own_values(attributes.get("style") or "")))
         is_in_link = tag == "a" or self._tags["a"] > 0
         is_in_head = any(self._tags[head] for head in _HEADS)
-        text = len(self._texts) - 1
-        place = (text + 1, 0) if tag in BLOCKS else (text, len(self._texts[text]))
         element = Emphasized(tag, shown, own, is_in_link, is_in_head)
-        self._emphasis.begin(element, len(self._path) - 1, place)
+        self._emphasis.begin(element, len(self._path) - 1, self._texts, _SEAM)
 
     def _leave(self, tag: str) -> None:
         left = None if self._tags[tag] else tag

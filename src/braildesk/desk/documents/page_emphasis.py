@@ -3,6 +3,7 @@
 import re
 from collections.abc import Iterator, Mapping, Sequence
 from dataclasses import dataclass
+from itertools import islice
 
 from braildesk.desk.documents.markup import BLOCKS, PARTED
 from braildesk.desk.documents.reading import Loss, LossKind, plain
@@ -20,6 +21,13 @@ _EMPHASIZED = {
     "font-variant": re.compile("small-caps"),
     "text-decoration": re.compile("underline|line-through"),
     "text-transform": re.compile("uppercase"),
+}
+#: What they say of words that are plain though those around them aren't; a line goes on below such words.
+_PLAIN = {
+    "font-style": frozenset({"normal"}),
+    "font-weight": frozenset("normal lighter 100 200 300 400 500".split()),
+    "font-variant": frozenset({"normal"}),
+    "text-transform": frozenset("none lowercase capitalize".split()),
 }
 _PLACES = {"super": LossKind.SUPERSCRIPT, "sub": LossKind.SUBSCRIPT}
 #: How many characters are shown of such words, and how many pieces are looked at for them.
@@ -41,29 +49,74 @@ class Emphasized:
     is_in_head: bool
 
 
+@dataclass(slots=True)
+class _Open:
+    """Words that are open: how many elements are around them, what is lost of them, and by which declarations."""
+
+    depth: int
+    what: LossKind
+    names: frozenset[str]
+    #: Their first text, and the piece of it with which those begin that aren't plain; None in words that are.
+    text: int
+    piece: int | None
+
+
 class PageEmphasis:
     """What is found of such words while a page is read."""
 
     def __init__(self) -> None:
         #: What, its words, and the text and the piece of that with which it begins.
         self._found: list[tuple[LossKind, str, int, int]] = []
-        #: What is open: how many elements are around it, and its first text and piece.
-        self._open: list[tuple[int, LossKind, int, int]] = []
+        self._open: list[_Open] = []
+        #: The elements whose words are plain in what is open: how many are around each, and that.
+        self._plain: list[tuple[int, list[_Open]]] = []
 
-    def begin(self, element: Emphasized, depth: int, place: tuple[int, int]) -> None:
-        """Notes an element within so many others that begins at a text and a piece of it."""
-        for what in dict.fromkeys(_lost(element)):
-            self._open.append((depth, what, *place))
+    def begin(
+        self, element: Emphasized, depth: int, texts: Sequence[Sequence[str]], seam: str
+    ) -> None:
+        """Notes an element within so many others, whose text is the next one if it is a block."""
+        is_next = element.tag in BLOCKS
+        text, piece = (len(texts), 0) if is_next else (len(texts) - 1, len(texts[-1]))
+        plain = {n for n, said in _PLAIN.items() if said & {element.values.get(n)}}
+        its = [
+            each
+            for each in islice(reversed(self._open), _SHOWN)
+            if each.names and each.names <= plain
+            if each.text == text and each.piece is not None
+        ]
+        for each in its:
+            self._end(each, piece, texts, seam)
+            each.piece = None
+        if its:
+            self._plain.append((depth, its))
+        found: dict[LossKind, set[str]] = {}
+        for what, name in _lost(element):
+            found.setdefault(what, set()).add(name)
+        for what, names in found.items():
+            self._open.append(_Open(depth, what, frozenset(names), text, piece))
 
     def end(self, depth: int, texts: Sequence[Sequence[str]], seam: str) -> None:
         """Notes that no more elements are open than so many; the seams of texts aren't shown."""
-        while self._open and depth <= self._open[-1][0]:
-            _, what, text, piece = self._open.pop()
-            pieces = [each[:_FRONT] for each in texts[text][piece : piece + _SHOWN]]
-            is_number = what is not LossKind.EMPHASIS and seam in pieces
-            words = plain("".join(pieces).replace(seam, "").replace("\n", " "))
-            if words and not is_number:
-                self._found.append((what, words[:_SHOWN], text, piece))
+        while self._plain and depth <= self._plain[-1][0]:
+            for each in self._plain.pop()[1]:
+                each.piece = len(texts[each.text])
+        while self._open and depth <= self._open[-1].depth:
+            last = self._open.pop()
+            self._end(last, len(texts[last.text]), texts, seam)
+
+    def _end(
+        self, its: _Open, stop: int, texts: Sequence[Sequence[str]], seam: str
+    ) -> None:
+        """Notes the words that are open up to a piece of their text, if there are any."""
+        text, piece = its.text, its.piece
+        if piece is None:
+            return
+        pieces = texts[text][piece : min(piece + _SHOWN, stop)]
+        is_number = its.what is not LossKind.EMPHASIS and seam in pieces
+        joined = "".join(each[:_FRONT] for each in pieces)
+        words = plain(joined.replace(seam, "").replace("\n", " "))
+        if words and not is_number:
+            self._found.append((its.what, words[:_SHOWN], text, piece))
 
     def losses(self, texts: Sequence[Sequence[str]], seam: str) -> Iterator[Loss]:
         """What was found, each with the words around it in its text."""
@@ -78,14 +131,14 @@ class PageEmphasis:
             yield Loss(what, words, words if is_front else around)
 
 
-def _lost(element: Emphasized) -> Iterator[LossKind]:
-    """What of an element is lost."""
+def _lost(element: Emphasized) -> Iterator[tuple[LossKind, str]]:
+    """What of an element is lost, and the name of the declaration that says it."""
     tag, own, values = element.tag, element.own, element.values
     is_within_line = tag not in BLOCKS | PARTED | _KNOWN
     # of a link to a note the number is typed in brackets
     place = _PLACES.get(values.get("vertical-align", ""))
     if place and is_within_line and not element.is_in_link:
-        yield place
+        yield place, "vertical-align"
     for name, emphasized in _EMPHASIZED.items():
         is_usual = tag == _LINK and name == "text-decoration"
         is_usual |= tag == _SMALL and name == "font-variant" and name in own
@@ -94,4 +147,5 @@ def _lost(element: Emphasized) -> Iterator[LossKind]:
         is_whole = tag == _PARAGRAPH and not is_bold_head
         said = values.get(name, "").split()
         if is_whole or is_within_line and not is_usual:
-            yield from [LossKind.EMPHASIS] * any(map(emphasized.fullmatch, said))
+            is_any = any(map(emphasized.fullmatch, said))
+            yield from [(LossKind.EMPHASIS, name)] * is_any
