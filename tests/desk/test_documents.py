@@ -2629,6 +2629,28 @@ def test_a_paragraph_of_a_page_is_noted_that_a_sheet_alone_emphasizes_but_headin
     assert sorted(lost(found, LossKind.EMPHASIS)) == sorted(emphasized)
 
 
+def test_what_is_lost_within_words_that_are_shown_as_they_are_written_is_noted_as_elsewhere() -> (
+    None
+):
+    body = (
+        "<pre>a <b>bold</b> <a href='http://x.example#y'>there</a> H<sub>2</sub>O\nin 10<sup><a href='#n'>3</a></sup> <img"
+        " src=x.png>, <img src=y.png alt=Moon> <img> <i></i><a href='http://z.example'>z.example</a>\n<a href='#n'>up</a></pre>"
+        "<p>By <code>the <em>line <u>below</u></em><img src=z.png/></code>, <samp><s>old</s></samp> <kbd><b>key</b></kbd>"
+    )
+    found = read_document(f"<html>{body}</html>".encode(), ManuscriptKind.HTML)
+    emphasized = ["below", "bold", "key", "line below", "old"]
+    assert sorted(lost(found, LossKind.EMPHASIS)) == emphasized
+    assert lost(found, LossKind.LINK) == ["there"]
+    assert lost(found, LossKind.SUBSCRIPT) == ["2"]
+    assert lost(found, LossKind.SUPERSCRIPT) == ["3"]
+    around = [each.around for each in found.losses if each.what is LossKind.PICTURE]
+    assert around == [
+        "a bold there H2O in 103 , Moon z.example up",
+        "By the line below , old key",
+    ]
+    assert [each.words for each in found.missing] == ["Moon"]
+
+
 def test_words_that_are_plain_in_what_a_sheet_emphasizes_on_a_page_are_not_noted() -> (
     None
 ):

@@ -86,6 +86,8 @@ _ENDED_BY: dict[str, tuple[str, ...]] = {
 }
 #: Headings and the heads of columns, which are bold as such.
 _HEADS = ("th", "h1", "h2", "h3", "h4", "h5", "h6")
+#: What is shown as it is written.
+_AS_WRITTEN = ("pre", "code", "samp", "var")
 _FOR_PRINT = re.compile(r"\b(all|print)\b", re.IGNORECASE)
 #: In how many pieces of a text on either side of a place the words are looked for that run together there.
 _BESIDE = 8
@@ -911,6 +913,11 @@ class _Html(Tags):
         self._add(data)
 
     @property
+    def _is_as_written(self) -> bool:
+        """Whether words are open of which pandoc knows no tags."""
+        return any(self._tags[tag] for tag in _AS_WRITTEN)
+
+    @property
     def _is_print(self) -> bool:
         return not self._silent and not self._back
 
@@ -946,7 +953,7 @@ class _Html(Tags):
         shown = self._sheet.shown_of(self._path, own)
         display = shown.get("display", "")
         text = len(self._texts) - 1
-        if shown:
+        if shown or self._is_as_written:
             self._note_emphasis(tag, attributes, shown)
         is_closed = tag == "dialog" and "open" not in attributes
         is_hidden = "hidden" in attributes or display == "none" or is_closed
@@ -964,7 +971,9 @@ class _Html(Tags):
         own = frozenset((*classes, *own_values(attributes.get("style") or "")))
         is_in_link = tag == "a" or self._tags["a"] > 0
         is_in_head = any(self._tags[head] for head in _HEADS)
-        element = Emphasized(tag, shown, own, is_in_link, is_in_head)
+        address = attributes.get("href") if tag == "a" else None
+        its = is_in_link, is_in_head, self._is_as_written, address
+        element = Emphasized(tag, shown, own, *its)
         self._emphasis.begin(element, len(self._path) - 1, self._texts, _SEAM)
 
     def _leave(self, tag: str) -> None:
@@ -1030,7 +1039,11 @@ class _Html(Tags):
         """Takes the description of a picture, and what is in a field of a form, for print."""
         its = dict(attrs)
         if tag == "img":
-            self.handle_data(f" {its.get('alt') or ''} ")
+            words = (its.get("alt") or "").strip()
+            is_shown = any(map(its.get, ("src", "srcset", "data-src")))
+            if is_shown and not words and self._is_as_written and self._is_print:
+                self._emphasis.note_picture(self._texts)
+            self.handle_data(f" {words} ")
         elif words := field_words(tag, its) or words_beside(tag, its):
             self.handle_data(f" {words} ")
 

@@ -1,4 +1,6 @@
-"""The words of a page that its style sheets alone emphasize, raise or lower, of which pandoc knows nothing."""
+"""The words of a page that its style sheets alone emphasize, raise or lower, of which pandoc knows nothing; and what is
+lost within words that are shown as they are written, as is known of all others.
+"""
 
 import re
 from collections.abc import Iterator, Mapping, Sequence
@@ -7,10 +9,14 @@ from itertools import islice
 
 from braildesk.desk.documents.markup import BLOCKS, PARTED
 from braildesk.desk.documents.reading import Loss, LossKind, plain
-from braildesk.desk.documents.tree import words_around
+from braildesk.desk.documents.tree import without_scheme, words_around
 
 #: What is emphasized by itself, or stands above or below the line, as pandoc knows.
-_KNOWN = frozenset("b del em i ins s strong strike sub sup u".split())
+_KNOWN = {
+    **dict.fromkeys("b del em i ins s strong strike u".split(), LossKind.EMPHASIS),
+    "sub": LossKind.SUBSCRIPT,
+    "sup": LossKind.SUPERSCRIPT,
+}
 #: Some small capitals that it knows: those of this element by this class, or by its own style.
 _SMALL, _SMALL_CLASS = "span", "smallcaps"
 _LINK, _PARAGRAPH = "a", "p"
@@ -47,12 +53,16 @@ class Emphasized:
     #: Whether it is a link or within one, and whether it is within a heading or the head of a column.
     is_in_link: bool
     is_in_head: bool
+    #: Whether it is within words that are shown as they are written, and where it leads, if it is a link.
+    is_as_written: bool
+    address: str | None
 
 
 @dataclass(slots=True)
 class _Open:
-    """Words that are open: how many elements are around them, what is lost of them, and by which declarations."""
+    """Words that are open: their element, how many are around it, what is lost of them, and by which declarations."""
 
+    element: Emphasized
     depth: int
     what: LossKind
     names: frozenset[str]
@@ -77,11 +87,12 @@ class PageEmphasis:
         """Notes an element within so many others, whose text is the next one if it is a block."""
         is_next = element.tag in BLOCKS
         text, piece = (len(texts), 0) if is_next else (len(texts) - 1, len(texts[-1]))
-        plain = {n for n, said in _PLAIN.items() if said & {element.values.get(n)}}
+        values = element.values
+        off = {name for name, said in _PLAIN.items() if values.get(name, "") in said}
         its = [
             each
             for each in islice(reversed(self._open), _SHOWN)
-            if each.names and each.names <= plain
+            if each.names <= off
             if each.text == text and each.piece is not None
         ]
         for each in its:
@@ -93,7 +104,13 @@ class PageEmphasis:
         for what, name in _lost(element):
             found.setdefault(what, set()).add(name)
         for what, names in found.items():
-            self._open.append(_Open(depth, what, frozenset(names), text, piece))
+            its_names = frozenset(names)
+            self._open.append(_Open(element, depth, what, its_names, text, piece))
+
+    def note_picture(self, texts: Sequence[Sequence[str]]) -> None:
+        """Notes a picture that has no description, at the end of the text."""
+        place = len(texts) - 1, len(texts[-1])
+        self._found.append((LossKind.PICTURE, "", *place))
 
     def end(self, depth: int, texts: Sequence[Sequence[str]], seam: str) -> None:
         """Notes that no more elements are open than so many; the seams of texts aren't shown."""
@@ -112,10 +129,15 @@ class PageEmphasis:
         if piece is None:
             return
         pieces = texts[text][piece : min(piece + _SHOWN, stop)]
-        is_number = its.what is not LossKind.EMPHASIS and seam in pieces
+        is_as_written = its.element.is_as_written
+        is_number = (
+            its.what in _PLACES.values() and not is_as_written and seam in pieces
+        )
         joined = "".join(each[:_FRONT] for each in pieces)
         words = plain(joined.replace(seam, "").replace("\n", " "))
-        if words and not is_number:
+        address = its.element.address if its.what is LossKind.LINK else None
+        is_said = address is not None and words in (address, without_scheme(address))
+        if words and not is_number and not is_said:
             self._found.append((its.what, words[:_SHOWN], text, piece))
 
     def losses(self, texts: Sequence[Sequence[str]], seam: str) -> Iterator[Loss]:
@@ -127,14 +149,28 @@ class PageEmphasis:
             before, its = ("".join(each).replace(seam, "") for each in (outer, inner))
             start = len(before) + len(its) - len(its.lstrip())
             around = words_around(before + its, start, start + len(words))
+            if what is LossKind.PICTURE and not around:
+                # one that stands alone is found by the words before it
+                around = _last_words(texts[max(text - _SHOWN, 0) : text], seam)
             is_front = not before.strip() and len(words) == _SHOWN
             yield Loss(what, words, words if is_front else around)
+
+
+def _last_words(texts: Sequence[Sequence[str]], seam: str) -> str:
+    """The last words of some texts."""
+    joined = ("".join(each).replace(seam, "") for each in reversed(texts))
+    last = next((text for text in joined if text.strip()), "")
+    return words_around(last, len(last), len(last))
 
 
 def _lost(element: Emphasized) -> Iterator[tuple[LossKind, str]]:
     """What of an element is lost, and the name of the declaration that says it."""
     tag, own, values = element.tag, element.own, element.values
-    is_within_line = tag not in BLOCKS | PARTED | _KNOWN
+    is_within_line = tag not in BLOCKS | PARTED | _KNOWN.keys()
+    if element.is_as_written and tag in _KNOWN:
+        yield _KNOWN[tag], tag
+    if element.is_as_written and not (element.address or "#").startswith("#"):
+        yield LossKind.LINK, tag
     # of a link to a note the number is typed in brackets
     place = _PLACES.get(values.get("vertical-align", ""))
     if place and is_within_line and not element.is_in_link:

@@ -434,7 +434,7 @@ class _Reader:
         shown = "".join(line.pieces[count:])
         if not target.startswith("#") and shown not in (
             target,
-            _without_scheme(target),
+            without_scheme(target),
         ):
             line.lose(LossKind.LINK, since)
 
@@ -495,7 +495,8 @@ def words_around(text: str, start: int, stop: int) -> str:
     return plain(f"{before}{text[start:stop]}{after}".replace("\n", " "))
 
 
-def _without_scheme(target: str) -> str:
+def without_scheme(target: str) -> str:
+    """The address to which a link leads as it is mostly written in print."""
     return re.sub(r"^(mailto:|https?://)", "", target).rstrip("/")
 
 
