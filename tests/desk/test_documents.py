@@ -389,6 +389,17 @@ def test_words_of_drawings_are_missing_unless_they_are_typed(tmp_path: Path) -> 
     )
 
 
+def test_the_title_of_a_picture_in_docx_is_missing_unless_its_description_is_the_same(
+    tmp_path: Path,
+) -> None:
+    drawing = '<w:r><w:drawing><wp:inline><wp:docPr id="1" name="a" title="A moon" descr="{}"/></wp:inline></w:drawing></w:r>'
+    said = {"One": "", "Two": "Far off", "Three": "A moon"}
+    body = "".join(paragraph(run(n) + drawing.format(said[n])) for n in said)
+    found = read_manuscript(docx(tmp_path / "drawings.docx", body))
+    missing = {each.before: each.words for each in found.missing}
+    assert missing == {"One": "A moon", "Two": "A moon Far off", "Three": "A moon"}
+
+
 def test_a_picture_in_docx_that_another_file_has_is_noted_unless_it_is_described(
     tmp_path: Path,
 ) -> None:

@@ -104,11 +104,14 @@ _W = "{http://schemas.openxmlformats.org/wordprocessingml/2006/main}"
 _A = "{http://schemas.openxmlformats.org/drawingml/2006/main}"
 _R = "{http://schemas.openxmlformats.org/officeDocument/2006/relationships}"
 _V = "{urn:schemas-microsoft-com:vml}"
-#: The elements of a drawing that have words beside their text, and the name by which they do.
+#: The elements of a drawing that have words beside their text, and the names by which they do.
 _DESCRIPTIONS = {
-    "{http://schemas.openxmlformats.org/drawingml/2006/wordprocessingDrawing}docPr": "descr",
-    **dict.fromkeys((f"{_V}shape", f"{_V}rect", f"{_V}oval", f"{_V}group"), "alt"),
-    f"{_V}textpath": "string",
+    "{http://schemas.openxmlformats.org/drawingml/2006/wordprocessingDrawing}docPr": (
+        "title",
+        "descr",
+    ),
+    **dict.fromkeys((f"{_V}shape", f"{_V}rect", f"{_V}oval", f"{_V}group"), ("alt",)),
+    f"{_V}textpath": ("string",),
 }
 _OFF = ("0", "false", "off")
 #: What parts words: the number of a note is typed where it stands.
@@ -493,10 +496,13 @@ def _linked(root: Element) -> Iterator[str]:
 
 
 def _is_described(drawing: Element) -> bool:
-    its = (drawing.iter(tag) for tag in _DESCRIPTIONS)
-    return any(
-        each.get(_DESCRIPTIONS[each.tag], "").strip() for found in its for each in found
-    )
+    return any(map(_descriptions, drawing.iter()))
+
+
+def _descriptions(element: Element) -> str:
+    """The words that an element of a drawing has beside its text, each once."""
+    its = (element.get(name, "") for name in _DESCRIPTIONS.get(element.tag, ()))
+    return " ".join(dict.fromkeys(filter(str.strip, its)))
 
 
 def _paragraphs(element: Element) -> Iterator[str]:
@@ -579,7 +585,7 @@ def _runs(element: Element, inner: list[Element]) -> Iterator[str]:
         elif tag in ("rt", "rubyBase"):
             yield f" {''.join(_runs(child, inner))} "
         elif tag != "pPr":
-            if described := child.get(_DESCRIPTIONS.get(tag, "")):
+            if described := _descriptions(child):
                 yield f" {described} "
             yield from _runs(child, inner)
 
