@@ -1358,6 +1358,32 @@ def test_words_in_odt_are_emphasized_by_what_their_style_is_based_on(
     assert lost(found, LossKind.SUPERSCRIPT) == ["Raised"]
 
 
+def test_words_of_an_odt_in_the_letters_of_a_typewriter_are_not_said_to_be_emphasized(
+    tmp_path: Path,
+) -> None:
+    style = '<style:style style:name="{}" style:family="text"><style:text-properties {}/></style:style>'
+    pitch = 'style:font-pitch="fixed"'
+    named = style.format("Source", pitch) + style.format("Font", 'style:font-name="M"')
+    named += style.format("Bold", f'{pitch} fo:font-weight="bold"')
+    text = "".join(
+        f'<text:p>In <text:span text:style-name="{name}">{name}</text:span> end</text:p>'
+        for name in ("Source", "Font", "Own", "Bold")
+    )
+    path = odt(tmp_path / "a.odt", text, style.format("Own", pitch), named)
+    face = f'<office:font-face-decls><style:font-face style:name="M" {pitch}/></office:font-face-decls>'
+    with zipfile.ZipFile(path) as container:
+        parts = {each: container.read(each) for each in container.namelist()}
+    front = b"<office:styles>"
+    assert front in parts["styles.xml"]
+    parts["styles.xml"] = parts["styles.xml"].replace(front, face.encode() + front)
+    with zipfile.ZipFile(path, "w") as container:
+        for each, part in parts.items():
+            container.writestr(each, part)
+    found = read_manuscript(path)
+    assert found.texts == ["In Source end", "In Font end", "In Own end", "In Bold end"]
+    assert lost(found, LossKind.EMPHASIS) == ["Bold"]
+
+
 def test_a_paragraph_of_an_odt_is_noted_that_is_emphasized_by_its_style_but_headings(
     tmp_path: Path,
 ) -> None:

@@ -44,6 +44,8 @@ _OTHER = {
     f"{_STYLE}text-overline-style": ("none",),
 }
 _LINE = f"{_STYLE}text-underline-style"
+#: What says of which font letters are: pandoc takes those of a typewriter for emphasized ones.
+_LETTERS = (f"{_STYLE}font-name", f"{_STYLE}font-pitch")
 #: Emphasis of whole paragraphs, with the values that are none.
 _WHOLE = {
     **_OTHER,
@@ -120,14 +122,18 @@ class Styles:
         self._known: dict[int, dict[str, str]] = {}
 
     def written(self, root: Element) -> dict[int, str]:
-        """What stands in place of each style of a part that is based on another, or has emphasis of other kinds,
-        by its identity.
+        """What stands in place of each style of a part that is based on another, or has letters or emphasis of other
+        kinds, by its identity.
         """
         return {
             id(style): _written(style, self._whole(style))
             for style in root.iter(f"{_STYLE}style")
             if style.get(f"{_STYLE}family") == self._family
-            and (_PARENT in style.attrib or _is_any(_emphasis(style), _OTHER))
+            and (
+                _PARENT in style.attrib
+                or _has_letters(style)
+                or _is_any(_emphasis(style), _OTHER)
+            )
         }
 
     def emphasis(self, name: str) -> dict[str, str]:
@@ -152,6 +158,14 @@ class Styles:
             found = found | _emphasis(inner)
             self._known[id(inner)] = found
         return found
+
+
+def _has_letters(style: Element) -> bool:
+    """Whether a style says of which font its letters are."""
+    properties = style.find(_PROPERTIES)
+    return properties is not None and any(
+        name in properties.attrib for name in _LETTERS
+    )
 
 
 def _emphasis(style: Element) -> dict[str, str]:
@@ -181,6 +195,8 @@ def _written(style: Element, emphasis: dict[str, str]) -> str:
     properties = made.find(_PROPERTIES)
     if properties is None:
         properties = SubElement(made, _PROPERTIES)
+    for name in _LETTERS:
+        properties.attrib.pop(name, None)
     properties.attrib.update(emphasis)
     if _is_any(emphasis, _OTHER):
         properties.set(_LINE, "solid")
