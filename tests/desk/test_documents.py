@@ -1989,6 +1989,29 @@ def test_words_of_rtf_that_libreoffice_leaves_out_are_missing(
     assert [each.words for each in found.missing] == missing
 
 
+@pytest.mark.parametrize(
+    "name, what",
+    [
+        ("A moon", LossKind.DESCRIBED),
+        ("Caf\\u233\\'e9", LossKind.DESCRIBED),
+        ("Picture 1", LossKind.PICTURE),
+        ("", LossKind.PICTURE),
+    ],
+)
+def test_a_picture_of_rtf_with_a_name_that_says_more_than_its_number_may_be_described(
+    tmp_path: Path, programs: Path, name: str, what: LossKind
+) -> None:
+    drawing = "<w:r><w:drawing><wp:inline><a:graphic><a:graphicData><a:blip r:link='rId9'/></a:graphicData></a:graphic></wp:inline></w:drawing></w:r>"
+    relations = "http://schemas.openxmlformats.org/officeDocument/2006/relationships"
+    drawing = drawing.replace("<a:blip", f"<a:blip xmlns:r='{relations}'")
+    made = docx(tmp_path / "made.docx", paragraph(run("One") + drawing))
+    program(programs, "soffice", 'mkdir -p "$6"', f'cp {made} "$6/manuscript.docx"')
+    its = r"{\*\picprop{\sp{\sn wzDescription}{\sv }}{\sp{\sn wzName}{\sv %s}}}" % name
+    text = r"{\rtf1 One {\pict%s89}}" % its
+    found = read_document(text.encode(), ManuscriptKind.RTF)
+    assert [each.what for each in found.losses] == [what]
+
+
 def test_pictures_of_rtf_of_which_one_is_described_are_not_said_to_have_no_description(
     tmp_path: Path, programs: Path
 ) -> None:

@@ -23,7 +23,10 @@ _CODE = b"fldinst"
 #: What is said of a picture by its name, as what describes it, and the groups in which that stands.
 _DESCRIPTION = b"wzDescription"
 _OF_PICTURES = frozenset((b"pict", b"sp"))
-_DESCRIBED = re.compile(rb"\{\\sn\s*wzDescription\}\s*\{\\sv\s+[^\s}]")
+#: What describes one, or is its name: LibreOffice writes its title so, others a word with a number.
+_DESCRIBED = re.compile(
+    rb"\{\\sn\s*wz(?:Description|Name(?!\}\s*\{\\sv\s[^{}]*\s\d+\s*\}))\}\s*\{\\sv\s+[^\s}]"
+)
 #: Groups whose print stands elsewhere, as that of a note does.
 _APART = frozenset((b"footnote", b"shptxt"))
 #: What ends a paragraph, and what parts words.
@@ -259,5 +262,5 @@ def passages_of(data: bytes) -> list[str]:
 
 
 def has_descriptions(data: bytes) -> bool:
-    """Whether a text in RTF describes a picture or a shape."""
+    """Whether a text in RTF describes a picture or a shape, or may by its name."""
     return _DESCRIBED.search(data) is not None
