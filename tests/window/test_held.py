@@ -14,8 +14,9 @@ from PyQt6.QtCore import QCoreApplication, QEvent, QMimeData, Qt, QTimer
 from PyQt6.QtGui import QDragEnterEvent, QDropEvent, QKeyEvent, QWindow
 from PyQt6.QtWidgets import QApplication, QDialog
 
-from braildesk import Session
+from braildesk import Session, requests
 from braildesk.desk.drafts import Drafts
+from braildesk.desk.layout import PageSize
 
 from scribe.window.desk import Desk
 from scribe.window.held import Held
@@ -413,6 +414,37 @@ def test_what_another_program_types_where_nothing_can_be_typed_is_given_up(
     window.says(
         "Paragraph 3, character 17. What was typed there is set aside: “It set.”."
     )
+
+
+@pytest.mark.parametrize("is_struck", [False, True])
+def test_what_another_program_types_while_the_session_ends_is_kept(
+    application: QApplication, moon: Path, is_struck: bool
+) -> None:
+    desk = Desk(moon, None, 0.0, PageSize())
+    desk.begin()
+    program, field = desk.book.pid, desk.window.print
+    if is_struck:
+        desk.do(requests.Strike(1))
+    os.kill(program, signal.SIGSTOP)
+
+    def insert() -> None:
+        field.textCursor().insertText("It rose.")
+        # the caret is put elsewhere, too, of which the session isn't asked
+        field.put_caret(2)
+        os.kill(program, signal.SIGCONT)
+
+    QTimer.singleShot(0, insert)
+    desk.close()
+    waits, drafts = desk.waits_at_once(), Drafts(moon)
+    if is_struck:
+        assert [each.text for each in drafts.given_up()] == ["It rose.The Moon"]
+        assert (waits, drafts.waiting()) == ("", None)
+    else:
+        assert waits.startswith("What was typed and isn't in the book is kept")
+        waiting = drafts.waiting()
+        assert waiting is not None and waiting.text == "It rose.The Moon"
+    with Session(moon) as session:
+        assert session.print_of(1) == "The Moon"
 
 
 def test_what_is_dropped_while_the_window_waits_stays_where_it_comes_from(

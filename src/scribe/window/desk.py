@@ -229,10 +229,16 @@ class Desk:
         self.unwatch()
         self._resting.stop()
         self.keep_place()
-        self.aside.stop()
+        was_closed, self.is_closed, self._is_acting = self.is_closed, True, True
         try:
-            if not self.is_closed:
-                self.work.result(self.book.close)
+            try:
+                if not was_closed:
+                    self.work.result(self.book.close)
+            finally:
+                # what others than hands typed until now is kept too
+                if self._is_typed_nowhere:
+                    self._give_up_where_none_is_typed()
+                self.aside.stop()
         except Lost as lost:
             self._follow(lost)
             raise
