@@ -304,6 +304,45 @@ def test_that_others_changed_a_book_before_it_was_opened_again_is_said_to_bar_ta
     assert desk.window.message.text.startswith("There is nothing that Ctrl+Z could")
 
 
+@pytest.mark.parametrize("is_known", [True, False])
+def test_that_others_changed_a_book_as_its_session_was_lost_is_said_to_bar_taking_back(
+    desk: Desk, moon: Path, is_known: bool
+) -> None:
+    left = "Ctrl+Z no longer takes back what was done before it was opened again."
+    if is_known:
+        desk.do(requests.Mark(2, 0, 1, ""))
+    os.kill(desk.book.pid, signal.SIGKILL)
+    with Session(moon, timeout=60) as session:
+        session.set_begins_volume(2, True)
+    desk.act("strike")
+    said = desk.window.message.text
+    assert "another program changed it meanwhile" in said
+    # where nothing was done before, nothing of it is taken back no more
+    assert said.endswith(f" {left}") == is_known
+    assert said.count(left) == is_known
+    desk.act("take_back")
+    assert desk.window.message.text.startswith("There is nothing that Ctrl+Z could")
+
+
+def test_that_a_book_was_put_in_place_of_another_is_said_to_bar_taking_back(
+    desk: Desk, moon: Path
+) -> None:
+    other = shutil.copyfile(moon, moon.with_name("other.braildesk"))
+    with Session(other) as session:
+        session.set_begins_volume(2, True)
+    desk.do(requests.Mark(2, 0, 1, ""))
+    other.replace(moon)
+    desk.act("strike")
+    assert desk.is_closed
+    desk.act("open_again")
+    assert desk.window.message.text == (
+        "The book is open again, at version 6. Ctrl+Z no longer takes back what was done before it"
+        " was opened again."
+    )
+    desk.act("take_back")
+    assert desk.window.message.text.startswith("There is nothing that Ctrl+Z could")
+
+
 def test_lines_that_were_not_typed_yet_wait_if_the_window_is_ended(
     desk: Desk, asked: dict[str, int], monkeypatch: pytest.MonkeyPatch
 ) -> None:

@@ -45,6 +45,8 @@ from scribe.words.status import Stop
 # the first words of a listed paragraph
 _WORDS = 120
 _AS_IT_WAS = "Stopped. The book is as it was."
+#: What is said where the book is open again and others changed it.
+LEFT = "Ctrl+Z no longer takes back what was done before it was opened again."
 _LONG = (
     "The volume is long, and isn't laid out by itself: Ctrl+P, twice, has that done."
 )
@@ -128,6 +130,8 @@ class OpenBook:
         # what was last sent takes back the last deed, or resolves a mark
         self._is_taking_back = False
         self._resolving: Deed | None = None
+        # another file may stand in the place of the book
+        self._is_displaced = False
         # the paragraphs as they were listed last: a long book takes a while to list
         self._known: tuple[Paragraph, ...] = ()
         self._laid: pagelook.VolumeLines | None = None
@@ -171,8 +175,9 @@ class OpenBook:
         """Opens the book after its session ended; only what nobody else changed is taken back."""
         before = self._session.last_version
         found = self.opened()
-        if found.version != before:
+        if found.version != before or self._is_displaced:
             self._deeds = ()
+        self._is_displaced = False
         return found
 
     def open_after(
@@ -184,7 +189,7 @@ class OpenBook:
         """
         if isinstance(lost, Displaced):
             # in what stands there now something else would be taken back
-            self._deeds = ()
+            self._is_displaced = True
             return None, [lost.sentence]
         look = self._while_waiting
         session, said = opened_again(self.path, lost, shown, begun, look)
@@ -193,16 +198,20 @@ class OpenBook:
         known = self._known
         found = self._with(session)
         if found.version != lost.version:
-            self._deeds = self._deeds_found(lost, known)
+            command = kept_alone(self._session, lost)
+            if command is None and self._deeds:
+                said.append(LEFT)
+            self._deeds = self._deeds_found(command, known)
         self._is_taking_back = False
         return found, said
 
-    def _deeds_found(self, lost: Lost, before: Sequence[Paragraph]) -> tuple[Deed, ...]:
+    def _deeds_found(
+        self, command: Command[Any] | None, before: Sequence[Paragraph]
+    ) -> tuple[Deed, ...]:
         """The deeds with that of the one command that was not answered and is in the book.
 
         There are none if others changed it.
         """
-        command = kept_alone(self._session, lost)
         if command is None:
             return ()
         done = self._resolving if isinstance(command, requests.Resolve) else None
@@ -221,7 +230,7 @@ class OpenBook:
         try:
             self._session.close()
         except Displaced:
-            self._deeds = ()
+            self._is_displaced = True
             raise
 
     def contents(self) -> Contents:

@@ -69,12 +69,11 @@ from scribe.words.preview import Preview
 from scribe.words.status import Interrupted, Stop, in_sentences
 
 Result = TypeVar("Result")
-#: What is said where an action needs a paragraph, where that has to be one that isn't struck, where the
-#: book isn't open any more, and where it is again and others changed it.
+#: What is said where an action needs a paragraph, where that has to be one that isn't struck, and where
+#: the book isn't open any more.
 NO_PARAGRAPH = "The book has no paragraph yet. Ctrl+Enter begins one."
 STRUCK = "is struck. Ctrl+D restores it, so that it can be changed."
 CLOSED = "The book is closed: Open the book again, in the menu Book, opens it."
-LEFT = "Ctrl+Z no longer takes back what was done before it was opened again."
 _NOT_SHOWN = "has a character that a window can't show. scribe edit changes it."
 _ONLY_HERE = (
     "What is typed can't be kept elsewhere: it is lost if the window is closed."

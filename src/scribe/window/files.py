@@ -20,8 +20,8 @@ from braildesk.protocol.sentences import of_failure
 from braildesk.workshop import MayNotLast
 
 from scribe.window import dialogs
-from scribe.window.book import Contents
-from scribe.window.desk import LEFT, Desk
+from scribe.window.book import LEFT, Contents
+from scribe.window.desk import Desk
 from scribe.window.dialogs import IsStopped, Say
 from scribe.words.console import Console, Heard
 from scribe.words.deeds import changed_between

@@ -5,7 +5,8 @@ from PyQt6.QtWidgets import QApplication
 from braildesk.text.cells import braille_ascii
 
 from scribe.window import dialogs
-from scribe.window.desk import LEFT, NO_PARAGRAPH, Desk
+from scribe.window.book import LEFT
+from scribe.window.desk import NO_PARAGRAPH, Desk
 from scribe.window.menus import key_lines
 from scribe.words.pages import NoSize, described, typed_page_size
 from scribe.words.paragraph import counted
