@@ -294,7 +294,17 @@ class Reader:
     def drag(self, start: tuple[int, int], part: Part) -> None:
         """Drags what is at a place of the screen into the middle of a part, slowly, and drops it there."""
         at = Atspi.Component.get_extents(part, Atspi.CoordType.SCREEN)
-        stop = at.x + at.width // 2, at.y + at.height // 2
+        self._drag(start, (at.x + at.width // 2, at.y + at.height // 2))
+
+    def drag_out(self, name: str, place: int, stop: tuple[int, int]) -> None:
+        """Drags what is at a character of a field to a place of the screen, slowly."""
+        self._drag(self._at(name, place), stop)
+
+    def drag_within(self, name: str, start: int, stop: int) -> None:
+        """Drags what is at a character of a field to another one, slowly."""
+        self._drag(self._at(name, start), self._at(name, stop))
+
+    def _drag(self, start: tuple[int, int], stop: tuple[int, int]) -> None:
         Atspi.generate_mouse_event(*start, "abs")
         Atspi.generate_mouse_event(*start, "b1p")
         for step in range(1, 2 * _STEPS):

@@ -25,7 +25,7 @@ from braildesk.text.spans import Span
 from scribe.window import dialogs
 from scribe.window.actions import Actions
 from scribe.window.book import Contents, OpenBook
-from scribe.window.desk import Desk
+from scribe.window.desk import CLOSED, Desk
 from scribe.window.held import Held
 from scribe.window.worker import Worker
 from scribe.words.console import Console
@@ -34,7 +34,7 @@ from scribe.words.import_text import Outcome, import_in_words
 from scribe.words.links import followed
 from scribe.words.status import Stop
 
-from conftest import wait
+from conftest import Answers, wait
 
 
 def _paste(desk: Desk, text: str) -> None:
@@ -498,6 +498,37 @@ def test_what_an_import_did_is_said_also_if_another_program_has_the_book_after_i
     assert desk.is_closed and desk.loss == " ".join(said)
     others[0].take_over()
     others[0].close()
+    desk.act("open_again")
+    assert [each.id for each in desk.contents.paragraphs] == [1, 4, 5, 2, 3]
+
+
+def test_of_a_book_that_another_program_has_after_an_import_all_else_says_that_it_is_closed(
+    desk: Desk, monkeypatch: pytest.MonkeyPatch, given: Answers, tmp_path: Path
+) -> None:
+    others: list[Session] = []
+
+    def then_opened_by_another(job: Import, *words: Any) -> Outcome:
+        outcome = import_in_words(job, *words)
+        others.append(Session(job.book))
+        return outcome
+
+    monkeypatch.setattr("scribe.window.files.import_in_words", then_opened_by_another)
+    desk.act("heading")
+    (text := tmp_path / "tides.txt").write_text("One.\n\nTwo.\n")
+    desk.window.dropped.emit(text)
+    assert desk.is_closed
+    others[0].take_over()
+    others[0].close()
+    monkeypatch.setattr(dialogs, "file_to_write", lambda *_: tmp_path / "proof.html")
+    given.update(fields=(["moon", "sun"], [False, False]), text="1", file=text)
+    acts = "take_back headings all_marks volumes part proof change_all import_text"
+    for name in acts.split():
+        given["choices"] = [0, 0]
+        desk.say("")
+        desk.act(name)
+        assert desk.window.message.text == CLOSED, name
+    desk.window.dropped.emit(text)
+    assert desk.window.message.text == f"Again: {CLOSED}"
     desk.act("open_again")
     assert [each.id for each in desk.contents.paragraphs] == [1, 4, 5, 2, 3]
 

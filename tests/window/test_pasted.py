@@ -340,6 +340,28 @@ def test_another_program_keeps_what_is_dragged_from_it_into_a_dialog_of_qt(
     assert source.text == "far"
 
 
+def test_the_print_keeps_what_is_dragged_from_it_into_another_program_that_moves_it(
+    moon: Path, at: Open, drags: Callable[[str], Source]
+) -> None:
+    window = at(moon)
+    window.press("F2")
+    window.focus("text", "Print")
+    # what is dragged within the print is moved there
+    window.drag_over("Print", 0, 4)
+    window.drag_within("Print", 1, 7)
+    window.reads("Print", "MooThe n")
+    window.press("Ctrl+a")
+    source = drags("far")
+    window.drag_out("Print", 2, PLACE)
+    window.until("what was dragged", lambda: "MooThe n" in source.text)
+    # whatever was dragged is still dragged, and what is typed comes in its place
+    window.reads("Print", "MooThe n")
+    window.type("x")
+    window.reads("Print", "x")
+    window.press("Escape")
+    window.reads("Print", "The Moon")
+
+
 TOO_MUCH = (
     "With what was copied this would have {:,} characters, and at most {:,} can be pasted here."
     " Nothing was typed. Save the text as a document, such as .odt or .docx: Ctrl+I imports it, with"

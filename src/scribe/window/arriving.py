@@ -2,7 +2,6 @@
 
 from functools import partial
 
-from scribe.window import dialogs
 from scribe.window.desk import Desk
 
 
@@ -11,6 +10,6 @@ def say_there(desk: Desk, said: str) -> None:
     if desk.says_pages and desk.reading is not None and desk.cell is not None:
         here = desk.reading.its.paragraph, desk.cell
         look = partial(desk.book.place_said, desk.contents, desk.page_size, here)
-        page = dialogs.long(desk.window, desk.work, "Page and line", look)
+        page = desk.long("Page and line", look)
         said = f"{said} {page}"
     desk.say(said)

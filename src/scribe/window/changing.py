@@ -180,7 +180,7 @@ class Changing:
             notes = (note for note, _ in further.notes)
             raise Stop(f"{none_left(wanted, notes)} {_NOTHING}")
 
-        return dialogs.long(desk.window, desk.work, _TITLE, look)
+        return desk.long(_TITLE, look)
 
     def _how(self, further: Further, found: Sequence[Proposal]) -> int:
         """Asks how the places are changed, if they are."""
@@ -211,7 +211,7 @@ class Changing:
 
             return desk.book.changed_all(further, found, count, go_on, _WIDTH)
 
-        sentences, lines = dialogs.long(desk.window, desk.work, _TITLE, act)
+        sentences, lines = desk.long(_TITLE, act)
         self._keep("", "")
         desk.window.model.all_unread()
         desk.show(desk.asked(desk.book.contents), None)

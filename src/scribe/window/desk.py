@@ -37,6 +37,7 @@ from braildesk.text.sequences import composed
 from braildesk.text.spans import Span
 from braildesk.text.wrapping import wrap
 
+from scribe.window import dialogs
 from scribe.window.book import (
     Contents,
     Done,
@@ -45,7 +46,7 @@ from scribe.window.book import (
     Opening,
     ChosenParagraph,
 )
-from scribe.window.dialogs import choice, offer
+from scribe.window.dialogs import IsStopped, Say, choice, offer
 from scribe.window.fields import LINE_END
 from scribe.window.held import Held
 from scribe.window.menus import MENUS
@@ -346,6 +347,12 @@ class Desk:
         if self.is_closed:
             raise Stop(CLOSED)
         return self.work.result(act)
+
+    def long(self, title: str, act: Callable[[Say, IsStopped], Result]) -> Result:
+        """The same of something that takes long, with its progress shown, and a button that ends it."""
+        if self.is_closed:
+            raise Stop(CLOSED)
+        return dialogs.long(self.window, self.work, title, act)
 
     def _say_waiting(self, is_waiting: bool) -> None:
         """Says that the program doesn't answer, until it does.

@@ -141,7 +141,7 @@ class Files:
             eight_dots = not_exported((each.volume, each.eight_dots) for each in pages)
             return (said, *([elsewhere(left)] if left else []), *eight_dots)
 
-        desk.say(" ".join(dialogs.long(desk.window, desk.work, "Proof", act)))
+        desk.say(" ".join(desk.long("Proof", act)))
 
     def pasted(self, paths: Sequence[Path]) -> None:
         """Asks whether a file that was pasted is imported; its path is no text."""
@@ -240,7 +240,7 @@ class Files:
             return now, (*_changed(before, now, *its, bool(deeds)), *done)
 
         try:
-            contents, lines = dialogs.long(desk.window, desk.work, title, whole)
+            contents, lines = desk.long(title, whole)
         except Lost as lost:
             self._lost(title, done, lost)
             return

@@ -75,7 +75,7 @@ class Going:
         look = partial(
             desk.book.line, desk.contents, desk.page_size, wanted, desk.chosen
         )
-        found, place = dialogs.long(desk.window, desk.work, "Go to a page", look)
+        found, place = desk.long("Go to a page", look)
         self._to(found, place, desk.window.print)
         self._say_there()
 
@@ -102,7 +102,7 @@ class Going:
                 for its, text in zip(found, prints(session, found))
             ]
 
-        lines = dialogs.long(desk.window, desk.work, "Headings", look)
+        lines = desk.long("Headings", look)
         title = f"Headings: {counted(len(found), 'heading')}"
         before = [n for n, e in enumerate(found) if book.index(e) <= desk.row]
         first = before[-1] if before else 0
@@ -121,7 +121,7 @@ class Going:
             marks, pages = all_marks(session), PageMap(session, desk.page_size)
             return marks, [_line(each, pages) for each in marks]
 
-        marks, lines = dialogs.long(desk.window, desk.work, "Marks", look)
+        marks, lines = desk.long("Marks", look)
         if not marks:
             raise Stop(marks_summary(marks))
         held = [n for n, each in enumerate(marks) if each.mark.id == desk.in_hand]

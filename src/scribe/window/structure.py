@@ -95,7 +95,7 @@ class Structure:
             return desk.book.with_table(number, name, path, go_on)
 
         try:
-            desk.show_done(dialogs.long(desk.window, desk.work, "Table", act))
+            desk.show_done(desk.long("Table", act))
         except NotAll as part:
             desk.show(desk.asked(desk.book.contents), None)
             assert number is not None and isinstance(part.cause, Refused)

@@ -65,9 +65,7 @@ class Typed:
             return
 
         try:
-            desk.show_done(
-                dialogs.long(desk.window, desk.work, "Take back", self._back)
-            )
+            desk.show_done(desk.long("Take back", self._back))
             desk.window.model.all_unread()
         except NothingToTakeBack:
             said = "There is nothing that Ctrl+Z could take back."
@@ -449,7 +447,7 @@ class Typed:
             return desk.book.typed_all(commands, report, before)
 
         try:
-            done = dialogs.long(desk.window, desk.work, "Paragraphs", act)
+            done = desk.long("Paragraphs", act)
         except NotAll as part:
             raise Stop(f"{part.done:,} typed. {self._left_of(part.cause)}") from part
         desk.have_wait(None)

@@ -88,7 +88,7 @@ class Volumes:
                 volumes = planned(lines, page_size, most)
             return book, volumes, list(volume_lines(session, book, volumes))
 
-        return dialogs.long(desk.window, desk.work, title, look)
+        return desk.long(title, look)
 
     def _set(self, changed: Sequence[tuple[Paragraph, bool]]) -> None:
         desk = self.desk
@@ -102,7 +102,7 @@ class Volumes:
 
             return desk.book.all_done(commands, what, go_on)
 
-        done = dialogs.long(desk.window, desk.work, "Part into volumes", act)
+        done = desk.long("Part into volumes", act)
         desk.window.model.all_unread()
         desk.show_done(done)
 
