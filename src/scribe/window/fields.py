@@ -254,7 +254,9 @@ class Print(Field):
 
     def __init__(self) -> None:
         super().__init__("Print", False)
-        self._is_dropped = False
+        self._is_dropped = self._may_begin_drag = False
+        # what is selected while it is dragged from here
+        self._dragged: QTextCursor | None = None
 
     def event(self, event: QEvent | None) -> bool:
         """Undo is an action of the desk, which knows whether something is typed.
@@ -355,6 +357,35 @@ class Print(Field):
         else:
             self.pasted.emit(lines)
 
+    def mouseMoveEvent(self, event: QMouseEvent | None) -> None:
+        """What is dragged from here stays here, unless it is dropped here.
+
+        Qt takes away what is selected after it, if another program moves it or doesn't answer yet.
+        """
+        if event is None:
+            return
+        self._may_begin_drag = True
+        try:
+            super().mouseMoveEvent(event)
+        finally:
+            self._may_begin_drag = False
+            self._select_dragged()
+
+    def createMimeDataFromSelection(self) -> QMimeData:
+        """Has nothing be selected while that is dragged."""
+        data = super().createMimeDataFromSelection()
+        if self._may_begin_drag:
+            self._may_begin_drag = False
+            self._dragged = self.textCursor()
+            self.put_caret(self.place)
+        return data
+
+    def _select_dragged(self) -> None:
+        """Has what was dragged be selected as before."""
+        dragged, self._dragged = self._dragged, None
+        if dragged is not None and dragged.hasSelection():
+            self.setTextCursor(dragged)
+
     def dragEnterEvent(self, event: QDragEnterEvent | None) -> None:
         """Says while a text is dragged that it is copied: its program may ask no later."""
         if event is not None:
@@ -371,7 +402,9 @@ class Print(Field):
         """A text that is dropped stays where it comes from, also if it isn't typed in the end."""
         if event is None:
             return
-        if not self._is_own(event) and not take_copy(event):
+        if self._is_own(event):
+            self._select_dragged()
+        elif not take_copy(event):
             return
         self._is_dropped = True
         try:
