@@ -11,7 +11,6 @@ from PyQt6.QtWidgets import QApplication, QDialog, QLineEdit, QWidget
 from scribe.window import dialogs
 from scribe.window.desk import Desk
 from scribe.window.dragged import Dragged
-from scribe.window.fields import Print
 
 from conftest import Answers, Open
 from dragging import PLACE, Source
@@ -171,13 +170,10 @@ def test_the_end_of_a_line_parts_what_is_pasted_from_the_words_beside_it(
     desk.act("give_up")
 
 
-def test_lines_that_are_dropped_stay_where_they_come_from_and_keep_it_waiting_for_no_answer(
-    application: QApplication,
-) -> None:
-    field, data, asked = Print(), QMimeData(), list[list[str]]()
-    field.pasted.connect(asked.append)
+def drop_lines(desk: Desk) -> QDropEvent:
+    """Drops lines at the front of the print, as a program does that would move them."""
+    data, actions = QMimeData(), Qt.DropAction
     data.setText("One.\nTwo.")
-    actions, proposed = Qt.DropAction, Qt.DropAction.MoveAction
     drop = QDropEvent(
         QPointF(2, 8),
         actions.CopyAction | actions.MoveAction,
@@ -185,12 +181,50 @@ def test_lines_that_are_dropped_stay_where_they_come_from_and_keep_it_waiting_fo
         Qt.MouseButton.LeftButton,
         Qt.KeyboardModifier.NoModifier,
     )
-    drop.setDropAction(proposed)
-    field.dropEvent(drop)
-    assert drop.isAccepted() and drop.dropAction() == actions.CopyAction
-    assert not asked
+    drop.setDropAction(actions.MoveAction)
+    desk.window.print.dropEvent(drop)
+    return drop
+
+
+def test_lines_that_are_dropped_stay_where_they_come_from_and_keep_it_waiting_for_no_answer(
+    desk: Desk, application: QApplication, given: Answers
+) -> None:
+    given["choices"] = [2]
+    drop = drop_lines(desk)
+    assert drop.isAccepted() and drop.dropAction() == Qt.DropAction.CopyAction
+    assert not given["said"]
     application.processEvents()
-    assert asked == [["One.", "Two."]]
+    assert given["said"] == ["2 lines were pasted. Are they paragraphs?"]
+
+
+def test_lines_go_where_they_were_dropped_though_the_caret_was_moved_before_that_is_asked(
+    desk: Desk, application: QApplication, given: Answers
+) -> None:
+    given["choices"] = [0]
+    desk.window.print.put_caret(8)
+    drop_lines(desk)
+    desk.window.print.put_caret(8)
+    application.processEvents()
+    assert prints_of(desk)[:3] == ["One.", "Two.The Moon", "The mon is far away."]
+
+
+@pytest.mark.parametrize("act", ["strike", "new_after", "choose"])
+def test_lines_are_given_up_where_something_else_is_shown_before_they_are_asked_about(
+    desk: Desk, application: QApplication, given: Answers, act: str
+) -> None:
+    drop_lines(desk)
+    if act == "choose":
+        desk.window.choose(1)
+    else:
+        desk.act(act)
+    application.processEvents()
+    assert desk.window.message.text == (
+        "Lines were dropped while something else was being done. The lines aren't in the book."
+        " Ctrl+B brings them back."
+    )
+    (given_up,) = desk.unsent.texts()
+    assert given_up.text == "One.\nTwo."
+    assert not given["said"] and prints_of(desk)[0] == "The Moon"
 
 
 def test_lines_that_are_dropped_as_something_else_begins_are_given_up(

@@ -36,6 +36,7 @@ class Actions:
         desk.window.dropped.connect(files.dropped)
         field = desk.window.print
         field.pasted.connect(typed.take_lines)
+        field.lines_dropped.connect(typed.take_dropped)
         field.files_pasted.connect(
             lambda paths: desk.acting(lambda: files.pasted(paths))
         )

@@ -242,9 +242,10 @@ class Field(QPlainTextEdit):
 class Print(Field):
     """The print of a paragraph, which is typed."""
 
-    #: Several lines were pasted or dropped, with an empty one after them if the last was ended, or a
+    #: Several lines were pasted, or dropped, with an empty one after them if the last was ended, or a
     #: blank; or files; or what has no text.
     pasted = pyqtSignal(list)
+    lines_dropped = pyqtSignal(list)
     files_pasted = pyqtSignal(list)
     nothing_pasted = pyqtSignal()
     #: More was pasted than may be: so many characters, of so many at most; and these lines if it was
@@ -317,7 +318,8 @@ class Print(Field):
         if self._is_too_much(lines):
             return
         if len(lines) > 1:
-            self._hand_on(_with_end(self._parted(lines, text), text))
+            found = _with_end(self._parted(lines, text), text)
+            (self.lines_dropped if self._is_dropped else self.pasted).emit(found)
         elif lines:
             self.put_in(*self._parted(lines, text))
         # the caret is seen where the text ends
@@ -349,13 +351,6 @@ class Print(Field):
         if text[:1].isspace() and _are_run_together(front, first):
             first = f" {first}"
         return [first, *others]
-
-    def _hand_on(self, lines: list[str]) -> None:
-        """Has lines be asked about, for which the program from which they are dropped doesn't wait."""
-        if self._is_dropped:
-            QTimer.singleShot(0, lambda: self.pasted.emit(lines))
-        else:
-            self.pasted.emit(lines)
 
     def mouseMoveEvent(self, event: QMouseEvent | None) -> None:
         """What is dragged from here stays here, unless it is dropped here.

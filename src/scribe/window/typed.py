@@ -6,6 +6,8 @@ from contextlib import suppress
 from dataclasses import replace
 from typing import Any
 
+from PyQt6.QtCore import QTimer
+
 from braildesk import After, Kind, Refused, requests
 from braildesk.desk.draft import Aim, Draft
 from braildesk.desk.drafts import NotKept
@@ -290,10 +292,30 @@ class Typed:
         """Asks about lines that were pasted or dropped, unless something else is being done by then."""
         desk = self.desk
         if desk.is_acting:
-            said = "Lines were dropped while something else was being done."
-            desk.say_after(f"{said} {self._put_lines_by(lines)}")
+            desk.say_after(self._put_dropped_by(lines))
         else:
             desk.acting(lambda: self.pasted(lines))
+
+    def take_dropped(self, lines: Sequence[str]) -> None:
+        """Asks where lines were dropped what they are, for which their program doesn't wait."""
+        desk, field = self.desk, self.desk.window.print
+        there, caret = (desk.number, desk.new), field.textCursor()
+
+        def take() -> None:
+            if desk.is_acting:
+                self.take_lines(lines)
+            elif (desk.number, desk.new) != there or field.isReadOnly():
+                desk.refuse(self._put_dropped_by(lines))
+            else:
+                field.setTextCursor(caret)
+                self.take_lines(lines)
+
+        QTimer.singleShot(0, take)
+
+    def _put_dropped_by(self, lines: Sequence[str]) -> str:
+        """Gives up lines that can't be asked about, and says so."""
+        said = "Lines were dropped while something else was being done."
+        return f"{said} {self._put_lines_by(lines)}"
 
     def keep_dropped(self, lines: Sequence[str]) -> None:
         """Keeps lines that were dropped and are too much, as what was given up, where there is room.
