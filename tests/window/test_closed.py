@@ -250,7 +250,11 @@ def test_what_is_refused_is_said_also_where_what_is_typed_can_be_kept_nowhere(
 
 
 def test_a_text_of_a_closed_book_that_can_be_kept_nowhere_does_not_go_unasked(
-    desk: Desk, stays: list[str], moon: Path, tmp_path: Path
+    desk: Desk,
+    application: QApplication,
+    stays: list[str],
+    moon: Path,
+    tmp_path: Path,
 ) -> None:
     _without_folder(tmp_path)
     desk.window.print.insertPlainText("Oh, ")
@@ -259,7 +263,10 @@ def test_a_text_of_a_closed_book_that_can_be_kept_nowhere_does_not_go_unasked(
     desk.act("keep")
     assert desk.is_closed and desk.window.message.text.endswith(_LOST)
     assert not desk.window.close()
-    assert stays[0].endswith(_LOST)
+    assert stays[0].endswith(_LOST) and stays[0].count(_LOST) == 1
+    # it is said no more once that is kept
+    (tmp_path / "state" / "braildesk").unlink()
+    assert wait(application, 60, lambda: _LOST not in desk.window.message.text)
     desk.window.print.setPlainText("The Moon")
 
 

@@ -927,6 +927,7 @@ class Desk:
                     return
             before, self._unkept = self._unkept, ""
             self.unsay(before)
+            self.unsay(_ONLY_HERE)
 
         saved = self._saved
 
@@ -1462,7 +1463,8 @@ class Desk:
             # all is in the book, which is elsewhere by now
             return choice(self.window, "Closed", said, _OF_CLOSING) == 0
         if not self.is_waiting():
-            said = f"{said}\n\n{_ONLY_HERE}"
+            # it is said once, also where the message has it
+            said = f"{said.replace(_ONLY_HERE, '').rstrip()}\n\n{_ONLY_HERE}"
             return self.offered("Not kept", said, _OF_CLOSING, _STAYS) == 0
         waits = "What is typed waits, and is offered when the book is opened again."
         return choice(self.window, "Not kept", f"{said}\n\n{waits}", _OF_CLOSING) == 0
