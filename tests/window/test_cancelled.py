@@ -59,7 +59,11 @@ def cancelled(monkeypatch: pytest.MonkeyPatch) -> Cancelled:
                 clicked.set()
 
         def waiting(
-            over: object, worker: object, title: str, work: Callable[..., Any]
+            over: object,
+            worker: object,
+            title: str,
+            work: Callable[..., Any],
+            *more: Any,
         ) -> Any:
             def say_and_wait(say: dialogs.Say, line: str) -> None:
                 say(line)
@@ -73,6 +77,7 @@ def cancelled(monkeypatch: pytest.MonkeyPatch) -> Cancelled:
                 lambda say, is_stopped: work(
                     lambda line: say_and_wait(say, line), is_stopped
                 ),
+                *more,
             )
 
         monkeypatch.setattr(dialogs, "long", waiting)
@@ -255,6 +260,39 @@ def test_enter_does_not_end_what_takes_long(
     timer.start(1)
     assert dialogs.long(desk.window, desk.work, "Table", work) is is_ended
     timer.stop()
+
+
+def test_a_text_that_is_typed_while_something_takes_long_does_not_end_it_and_is_set_aside(
+    desk: Desk, monkeypatch: pytest.MonkeyPatch
+) -> None:
+    monkeypatch.setattr(dialogs, "_SHOWN_AFTER_SECONDS", 0)
+    pressed = Event()
+
+    def press() -> None:
+        over = QApplication.activeModalWidget()
+        button = over.findChild(QPushButton) if over is not None else None
+        if button is not None and not pressed.is_set():
+            for letter in "It  \brose.\r":
+                key = {"\b": Qt.Key.Key_Backspace, "\r": Qt.Key.Key_Return}.get(letter)
+                key = key or Qt.Key(ord(letter.upper()))
+                none = Qt.KeyboardModifier.NoModifier
+                for kind in (QKeyEvent.Type.KeyPress, QKeyEvent.Type.KeyRelease):
+                    QApplication.sendEvent(button, QKeyEvent(kind, key, none, letter))
+            pressed.set()
+
+    def work(say: dialogs.Say, is_stopped: dialogs.IsStopped) -> bool:
+        return pressed.wait(PATIENCE_SECONDS) and is_stopped()
+
+    timer = QTimer()
+    timer.timeout.connect(press)
+    timer.start(1)
+    ended: list[bool] = []
+    desk.acting(lambda: ended.append(desk.long("Table", work)))
+    timer.stop()
+    assert ended == [False]
+    said = "What came while braildesk didn't answer is set aside: “It rose.”. Ctrl+B brings it back."
+    assert desk.window.message.text == said
+    assert [each.text for each in desk.unsent.texts()] == ["It rose."]
 
 
 def test_a_window_that_is_ended_while_it_works_waits_for_no_step_that_has_no_end(

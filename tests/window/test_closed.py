@@ -355,13 +355,15 @@ def test_lines_that_were_not_typed_yet_wait_if_the_window_is_ended(
 ) -> None:
     long: Callable[..., Any] = dialogs.long
 
-    def ended(over: object, worker: object, title: str, act: Callable[..., Any]) -> Any:
+    def ended(
+        over: object, worker: object, title: str, act: Callable[..., Any], *more: Any
+    ) -> Any:
         def is_stopped() -> bool:
             drafts = Drafts(desk.path).waiting()
             return drafts is not None and drafts.text == "Two.\nThree."
 
         desk.is_ending = True
-        return long(over, worker, title, lambda say, _: act(say, is_stopped))
+        return long(over, worker, title, lambda say, _: act(say, is_stopped), *more)
 
     monkeypatch.setattr(dialogs, "long", ended)
     asked["Pasted lines"] = 0

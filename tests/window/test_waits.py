@@ -453,9 +453,10 @@ def test_words_whose_change_was_cut_short_are_asked_about_until_all_are_changed_
             monkeypatch.setattr(
                 dialogs,
                 "long",
-                lambda over, worker, title, act: long(
+                lambda over, worker, title, act, *more: long(
                     *(over, worker, title),
                     lambda say, _: act(say, lambda: look.pop(0)),
+                    *more,
                 ),
             )
         desk.act("change_all")
@@ -483,11 +484,12 @@ def test_words_whose_change_was_cut_short_are_asked_about_until_all_are_changed_
         monkeypatch.setattr(
             dialogs,
             "long",
-            lambda over, worker, title, act: long(
+            lambda over, worker, title, act, *more: long(
                 *(over, worker, title),
                 lambda _, is_stopped: act(
                     lambda _: notes.append(desk.drafts.taken_back()), is_stopped
                 ),
+                *more,
             ),
         )
         desk.act("take_back")

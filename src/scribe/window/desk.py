@@ -352,7 +352,13 @@ class Desk:
         """The same of something that takes long, with its progress shown, and a button that ends it."""
         if self.is_closed:
             raise Stop(CLOSED)
-        return dialogs.long(self.window, self.work, title, act)
+
+        def typed(text: str) -> None:
+            draft = self._of_new(text)
+            how = self.aside.result(lambda: self.unsent.put_by(draft), False)
+            self.say_after(f"{came_last(text)} {how or 'Ctrl+B brings it back.'}")
+
+        return dialogs.long(self.window, self.work, title, act, typed)
 
     def _say_waiting(self, is_waiting: bool) -> None:
         """Says that the program doesn't answer, until it does.

@@ -574,15 +574,28 @@ class _Lines(QDialog):
 
 
 class _Cancel(QPushButton):
-    """A button that Enter doesn't press, which may be meant for what was there before the dialog."""
+    """A button that Enter doesn't press, which may be meant for what was there before the dialog.
+
+    Nor does a text, with its blanks, that is typed on by hands that don't know yet of the dialog.
+    """
 
     def __init__(self) -> None:
         super().__init__("Cancel")
         self.setAutoDefault(False)
+        self.typed = ""
 
     def keyPressEvent(self, event: QKeyEvent | None) -> None:
         """Presses it by any other key that does so."""
-        if event is not None and event.key() not in ENTER:
+        if event is None:
+            return
+        is_text = bool(self.typed)
+        if event.key() in ENTER:
+            self.typed += "\n" if is_text else ""
+        elif event.key() == Qt.Key.Key_Backspace:
+            self.typed = self.typed[:-1]
+        elif is_letter(event) and (is_text or event.text() != " "):
+            self.typed += event.text()
+        else:
             super().keyPressEvent(event)
 
 
@@ -610,6 +623,11 @@ class _Progress(QDialog):
             height = self.heightForWidth(self.width())
             _fit(self, self.width(), max(self.height(), height))
 
+    @property
+    def typed(self) -> str:
+        """The text that was typed here."""
+        return self._cancel.typed
+
     def reject(self) -> None:
         """Has the work end, for which the dialog waits."""
         self.is_stopped = True
@@ -622,10 +640,12 @@ def long(
     worker: Worker,
     title: str,
     act: Callable[[Say, IsStopped], Result],
+    typed: Callable[[str], None] = lambda text: None,
 ) -> Result:
     """What comes of something that takes long, with its progress shown, and a button that ends it.
 
-    It is given what to say its progress with, and what says whether it is to end.
+    It is given what to say its progress with, and what says whether it is to end. A text that was
+    typed there is handed on.
     """
     dialog = _Progress(over, title)
     found: list[Future[Result]] = []
@@ -650,4 +670,6 @@ def long(
         dialog.is_stopped = True
         worker.wait_until(lambda: bool(found))
     timer.stop()
+    if dialog.typed.strip():
+        typed(dialog.typed.strip())
     return found[0].result()
