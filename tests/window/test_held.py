@@ -259,13 +259,17 @@ def test_what_is_typed_before_a_dialog_opens_is_no_answer_to_it(
     await_kept(window, moon, "It set.")
     os.kill(program, signal.SIGCONT)
     top = window.dialog("Mark in paragraph 1")
-    window.says("Ctrl+B brings it back.")
+    window.until("a text that is given up", Drafts(moon).given_up)
     assert [each.text for each in Drafts(moon).given_up()] == ["It set."]
     window.type("who?")
     window.until("the note", lambda: window.text_in(window.first("text", top)))
     window.press("Return")
     window.no_dialog()
-    window.reads("Message", "Kept: mark 2.")
+    window.reads(
+        "Message",
+        "Kept: mark 2. What came while braildesk didn't answer is set aside: “It set.”. Ctrl+B brings"
+        " it back.",
+    )
     assert prints_after(window, moon)[0] == "The Moon"
 
 

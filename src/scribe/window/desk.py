@@ -1062,7 +1062,9 @@ class Desk:
 
         def look(found: "Future[str]") -> None:
             how = found.result() or "Ctrl+B brings it back."
-            self.say(f"{came_last(draft.text)} {how}")
+            said = f"{came_last(draft.text)} {how}"
+            # what is being done says something else, which would come in its place
+            (self.say_after if self._is_acting else self.say)(said)
 
         self.aside.post(lambda: self.unsent.put_by(draft), look)
 
