@@ -181,9 +181,21 @@ def test_keys_before_an_offer_was_read_are_one_text_or_answer_nothing(
     for key in text:
         now += gap
         assert arrivals.came(keyboard.strokes(key), now, now - gap) == []
-    assert arrivals.due == pytest.approx(now + 0.3)
-    assert arrivals.let_go(now + 0.29) == []
-    assert arrivals.let_go(now + 0.31) == [wanted]
+    # hands that type on stop for longer between two words
+    pause = 0.3 if wanted == UNREAD else 1.0
+    assert arrivals.due == pytest.approx(now + pause)
+    assert arrivals.let_go(now + pause - 0.01) == []
+    assert arrivals.let_go(now + pause + 0.01) == [wanted]
+
+
+def test_a_text_before_an_offer_was_read_goes_on_after_a_pause_between_its_words() -> (
+    None
+):
+    arrivals, keyboard, now = Arrivals(is_unread=True), Keyboard(), 10.0
+    for key, gap in zip("The moon", (0.0, 0.1, 0.1, 0.1, 0.8, 0.1, 0.9, 0.2)):
+        now += gap
+        assert arrivals.came(keyboard.strokes(key), now) == []
+    assert arrivals.let_go(now + 1.01) == [Pasted("The moon", is_keys=True)]
 
 
 SOON = Draft(Aim.EDIT, 1, "en", "The moon is far away.", "The moon is near.")
@@ -276,7 +288,7 @@ def typed_at_offer(book: Path, at: Open, text: str) -> Terminal:
 def test_a_text_that_is_typed_at_an_offer_is_there_once_if_scribe_is_killed_meanwhile(
     moon: Path, at: Open, monkeypatch: pytest.MonkeyPatch
 ) -> None:
-    monkeypatch.setattr("scribe.screen.arrivals.READING_SECONDS", NO_PAUSE)
+    monkeypatch.setattr("scribe.screen.arrivals._PAUSE_SECONDS", NO_PAUSE)
     terminal = typed_at_offer(moon, at, "The sea")
     terminal.send_signal(signal.SIGKILL)
     assert terminal.ended() == -signal.SIGKILL
@@ -298,7 +310,7 @@ def test_a_text_that_was_typed_at_an_offer_is_there_once_if_scribe_is_killed_the
         return ""
 
     with monkeypatch.context() as patched:
-        patched.setattr("scribe.screen.arrivals.READING_SECONDS", NO_PAUSE)
+        patched.setattr("scribe.screen.arrivals._PAUSE_SECONDS", NO_PAUSE)
         patched.setattr(Unsent, "put_by", killed)
         terminal = typed_at_offer(moon, at, "The sea")
         terminal.send(" rises")
@@ -313,7 +325,7 @@ def test_a_text_that_was_typed_at_an_offer_is_there_once_if_scribe_is_killed_the
 def test_a_text_that_was_set_aside_at_an_offer_is_not_set_aside_again_after_a_kill(
     moon: Path, at: Open, monkeypatch: pytest.MonkeyPatch
 ) -> None:
-    monkeypatch.setattr("scribe.screen.arrivals.READING_SECONDS", NO_PAUSE)
+    monkeypatch.setattr("scribe.screen.arrivals._PAUSE_SECONDS", NO_PAUSE)
     terminal = typed_at_offer(moon, at, "The sea")
     terminal.keys("f5")
     terminal.wait("That key is no answer to the question.")
@@ -324,6 +336,7 @@ def test_a_text_that_was_set_aside_at_an_offer_is_not_set_aside_again_after_a_ki
 def test_letters_of_a_text_that_was_begun_at_an_offer_are_no_keys_once_that_is_gone(
     moon: Path, at: Open, monkeypatch: pytest.MonkeyPatch
 ) -> None:
+    monkeypatch.setattr("scribe.screen.arrivals._PAUSE_SECONDS", NO_PAUSE)
     monkeypatch.setattr("scribe.screen.arrivals.READING_SECONDS", NO_PAUSE)
     place = NotedPlace(1, 21, 4, "moon", Became.OPEN)
     Drafts(moon).begin_change(ChangeNote("moon", "sun", False, False, 7, (place,)))

@@ -20,6 +20,8 @@ _TYPED_SECONDS = 0.04
 _LULL_SECONDS = 3.0
 #: How long a question is on the screen, and no key comes, before one is an answer to it.
 READING_SECONDS = 0.3
+# hands that type on, and read nothing, stop for less time between two words
+_PAUSE_SECONDS = 1.0
 _FEW = 3
 #: What comes in place of a key that was pressed before what is offered could be read.
 UNREAD = "unread"
@@ -51,7 +53,8 @@ class Arrivals:
         if not self._held:
             return None
         if self.is_unread:
-            return self._latest + READING_SECONDS
+            is_text = _is_text_of_hands(self._held)
+            return self._latest + (_PAUSE_SECONDS if is_text else READING_SECONDS)
         is_text = _is_pasted(self._held)
         return self._latest + (_PASTE_SECONDS if is_text else _TOGETHER_SECONDS)
 
@@ -99,10 +102,14 @@ class Arrivals:
         held, self._held = self._held, []
         if not (self.is_unread or _is_pasted(held)):
             return list(held)
-        text = "".join(map(text_of, held))
-        if self.is_unread and len(set(text.strip())) < 2:
+        if self.is_unread and not _is_text_of_hands(held):
             return [UNREAD] if held else []
-        return [Pasted(text, is_keys=True)]
+        return [Pasted("".join(map(text_of, held)), is_keys=True)]
+
+
+def _is_text_of_hands(held: Sequence[str]) -> bool:
+    """Whether keys are more than one that was pressed as an answer, however often."""
+    return len(set("".join(map(text_of, held)).strip())) > 1
 
 
 @dataclass
