@@ -3,6 +3,7 @@
 import hashlib
 import os
 import signal
+import stat
 from collections.abc import Callable
 from io import BytesIO, StringIO
 from pathlib import Path
@@ -224,6 +225,17 @@ def test_a_report_replaces_an_empty_file_and_an_older_report(
     for _ in range(2):
         assert scribe("import", book, name, *words, folder=book.parent).status == 0
         assert Path("lost.txt").read_text()
+
+
+@pytest.mark.parametrize("text", ["One *two*.\n", "One {two}.\n"])
+@pytest.mark.parametrize("mode", [0o600, 0o640, 0o644])
+def test_a_report_is_for_those_for_whom_the_book_is(
+    book: Path, text: str, mode: int
+) -> None:
+    book.chmod(mode)
+    Path("text.md").write_text(text)
+    scribe("import", book, "text.md", "--report", "lost.txt", folder=book.parent)
+    assert stat.S_IMODE(os.stat("lost.txt").st_mode) == mode
 
 
 class Reader(StringIO):

@@ -220,6 +220,10 @@ class Importer:
             reading = replace(reading, kind=None)
         return replace(job, how=replace(job.how, reading=reading))
 
+    def fileno(self) -> int:
+        """The file of the book, while it is open."""
+        return self._session.fileno()
+
     def let_go(self) -> None:
         """Lets others have the book, as while a person reads what is lost of the text."""
         self._open.close()

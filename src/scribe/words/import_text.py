@@ -56,7 +56,7 @@ from braildesk.desk.manuscripts import UnreadableFile
 from braildesk.desk.replacements import BadReplacements
 from braildesk.desk.typist import CutShort
 from braildesk.desk.unfinished import NotSeen, Unfinished
-from braildesk.desk.whole_file import AnotherIsThere, write_whole
+from braildesk.desk.whole_file import Access, AnotherIsThere, write_whole
 from braildesk.named_files import is_handed_over, is_same_file
 from braildesk.protocol.asked import journal_path, log_path, real_path
 from braildesk.protocol.sentences import of_failure
@@ -202,7 +202,8 @@ def _report(importer: Importer, show: Callable[..., None], report: Path | None) 
 
     if report is not None:
         lines = report_lines(job.text, taken)
-        _write_report(job, report, lines or [f"{job.text} is a text."])
+        access = Access.of(importer.fileno())
+        _write_report(job, report, lines or [f"{job.text} is a text."], access)
     if job.way is Way.GO_ON:
         return
     lines = report_lines(job.text, taken, FEW)
@@ -214,7 +215,9 @@ def _report(importer: Importer, show: Callable[..., None], report: Path | None) 
         show("scribe import --report FILE writes all places to a file.")
 
 
-def _write_report(job: Import, report: Path, lines: Sequence[str]) -> None:
+def _write_report(
+    job: Import, report: Path, lines: Sequence[str], access: Access
+) -> None:
     own = (job.book, job.text, job.replacements)
     # the log is in use by now, and no book is opened beside a journal
     beside = log_path(str(job.book)), journal_path(str(job.book))
@@ -228,7 +231,7 @@ def _write_report(job: Import, report: Path, lines: Sequence[str]) -> None:
     # the name of a file may have anything, and is read in a terminal too
     text = "".join(f"{visible(line)}\n" for line in lines)
     try:
-        write_whole(report, text.encode(), replaces=is_report)
+        write_whole(report, text.encode(), access, is_report)
     except AnotherIsThere as cause:
         raise Stop(_no_report(report, cause)) from cause
     except MayNotLast as cause:
