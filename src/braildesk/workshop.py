@@ -262,14 +262,15 @@ def give_access(file: int, like: int) -> None:
 
     A group that isn't that of the other file gets no more than anybody, and then nobody gets more than
     that of the other file. If the folder has given the file a list of who may do what with it (ACL),
-    those on that list may do as much with it as with the other file. Nobody may do more with it whom
-    the list of the other file names.
+    those on that list may do as much with it as with the other file, where that lists them too, and
+    else as its group. Nobody may do more with it whom the list of the other file names.
     """
-    found = os.fstat(like)
+    found, named = os.fstat(like), may_of_named(like)
     mode, listed = mode_of(like, found), found.st_mode & stat.S_IRWXG
     if not _named(like) <= _named(file):
         mode &= limit_of(like, found, found.st_gid)
         listed &= limit_of(like, found)
+    of_group = mode
     try:
         os.fchown(file, -1, found.st_gid)
     except OSError:
@@ -277,6 +278,7 @@ def give_access(file: int, like: int) -> None:
     with suppress(OSError):
         os.fchown(file, found.st_uid, -1)
     with suppress(OSError):
+        limit_named(file, of_group, named)
         if limit_group(file, mode):
             # what all those may do at most who are on the list that the file has
             mode = mode & ~stat.S_IRWXG | listed
@@ -364,16 +366,42 @@ def limit_group(file: int, mode: int) -> bool:
 
     Whether it has one: the mode of such a file says what anybody on the list may do at most.
     """
+    return _limit_listed(file, lambda tag, _: mode >> 3 if tag == _OF_GROUP else 7)
+
+
+def limit_named(file: int, mode: int, named: Sequence[Listed]) -> None:
+    """Lets those whom the list of access of a file names do no more with it than is said of each.
+
+    Of whom nothing is said, that one may do no more than the group by a mode.
+    """
+    most = {(tag, whom): may for tag, may, whom in named}
+
+    def may_do(tag: int, whom: int) -> int:
+        is_named = tag in (_OF_USER, _OF_OTHER_GROUP)
+        return most.get((tag, whom), mode >> 3) if is_named else 7
+
+    _limit_listed(file, may_do)
+
+
+def _limit_listed(file: int, most: Callable[[int, int], int]) -> bool:
+    """Limits what each may do who is on the list of access of a file, and says whether it has one."""
     try:
         listed = bytearray(os.getxattr(file, _ACL))
     except OSError:
         return False
     for place in range(_ACL_FRONT, _end_of(listed), _ACL_ENTRY.size):
         tag, may, whom = _ACL_ENTRY.unpack_from(listed, place)
-        if tag == _OF_GROUP:
-            _ACL_ENTRY.pack_into(listed, place, tag, may & mode >> 3, whom)
+        _ACL_ENTRY.pack_into(listed, place, tag, may & most(tag, whom), whom)
     os.setxattr(file, _ACL, listed)
     return True
+
+
+def may_of_named(file: int | Path) -> tuple[Listed, ...]:
+    """What those may do whom the list of access of a file names, and its owner."""
+    found = os.stat(file)
+    owner = _OF_USER, found.st_mode >> 6 & 7, found.st_uid
+    listed = sorted(_named(file))
+    return *((tag, may & found.st_mode >> 3, whom) for tag, may, whom in listed), owner
 
 
 def _end_of(listed: bytes | bytearray) -> int:

@@ -14,7 +14,7 @@ import sys
 import tempfile
 import time
 from collections.abc import Callable, Iterator
-from contextlib import closing, contextmanager, suppress
+from contextlib import ExitStack, closing, contextmanager, suppress
 from pathlib import Path
 from typing import Any, BinaryIO
 
@@ -1586,6 +1586,46 @@ def test_those_to_whom_a_folder_gives_access_by_a_list_have_it_to_what_is_made_t
     write_whole(folder / "pages", b"pages", Access.of(book))
     for made in folder.iterdir():
         assert os.getxattr(made, "system.posix_acl_access") == of_book
+
+
+@NEEDS_ROOT
+@pytest.mark.parametrize("of_group", [0, 4])
+@pytest.mark.parametrize("is_open", [False, True])
+def test_whom_a_folder_lists_and_a_book_does_not_gets_no_more_than_the_group_of_the_book(
+    book: Path, tmp_path: Path, of_group: int, is_open: bool
+) -> None:
+    def packed(*listed: tuple[int, int, int]) -> bytes:
+        entries = [struct.pack("<HHI", *each) for each in sorted(listed)]
+        return b"".join([struct.pack("<I", 2), *entries])
+
+    owner, others, ben, eve = (1, 6, NOBODY), (32, 0, NOBODY), STRANGER - 2, STRANGER
+    one = (2, 4, ben), (4, of_group, NOBODY), (16, 6, NOBODY)
+    all_of_it = (2, 7, ben), (2, 7, eve), (8, 7, eve), (4, 7, NOBODY), (16, 7, NOBODY)
+    folder = tmp_path / "folder"
+    folder.mkdir()
+    folder.chmod(0o755)
+    with Session(book) as session:
+        session.add_paragraph("end", "en", "private")
+    try:
+        os.setxattr(book, "system.posix_acl_access", packed(owner, *one, others))
+        given = packed(owner, *all_of_it, others)
+        os.setxattr(folder, "system.posix_acl_default", given)
+    except OSError:
+        pytest.skip("the file system keeps no such lists")
+    lead_to(tmp_path)
+    words = ("copy", book, "copy"), ("proof", book, "page.html"), ("export", book, ".")
+    with ExitStack() as opened:
+        if is_open:
+            opened.enter_context(Session(book))
+        # a book that is open isn't exported
+        ran = [scribe(*each, folder=folder).status for each in words[: 3 - is_open]]
+    made = sorted(folder.iterdir())
+    assert ran == [0] * len(made) == [0] * (3 - is_open)
+    for each in (book, *made):
+        read, write = lambda: each.open("rb").close(), lambda: each.open("ab").close()
+        for_group = "" if of_group and each != book else "PermissionError"
+        assert (as_stranger(read, ben), as_stranger(read, eve)) == ("", for_group)
+        assert as_stranger(write, ben) == as_stranger(write, eve) == "PermissionError"
 
 
 @pytest.mark.parametrize(

@@ -276,6 +276,21 @@ def test_in_a_folder_with_a_list_a_group_that_is_not_the_books_alone_gets_no_mor
     assert os.getxattr(out / "pages.brf", "system.posix_acl_access") == limited
 
 
+def test_the_mode_limits_a_list_that_a_folder_gives_where_no_list_can_be_changed(
+    tmp_path: Path, monkeypatch: pytest.MonkeyPatch
+) -> None:
+    named = (2, 6, STRANGER), (4, 6, NOBODY), (16, 6, NOBODY)
+    give_list(tmp_path, "default", packed(OWNER, *named, OTHERS))
+
+    def refuse(*_: object) -> None:
+        raise OSError(errno.EOPNOTSUPP, os.strerror(errno.EOPNOTSUPP))
+
+    monkeypatch.setattr(os, "setxattr", refuse)
+    # the book is for one user on its list, and its group may do nothing
+    write_whole(tmp_path / "pages.brf", b"new", Access(0o600, os.getegid(), 0o040))
+    assert mode(tmp_path / "pages.brf") == 0o600
+
+
 @pytest.mark.parametrize("target", ["there.txt", "missing.txt", "."])
 def test_a_link_is_replaced_and_what_it_led_to_stays(
     target: str, tmp_path: Path

@@ -27,8 +27,10 @@ from braildesk.workshop import (
     gives_lists,
     is_same,
     limit_group,
+    limit_named,
     limit_of,
     limit_of_another_group,
+    may_of_named,
     mode_of,
     set_list,
     sync_names,
@@ -75,6 +77,8 @@ class Access(Value):
     listed: int = 0
     #: What any other group may do at most, and others.
     most: int = ANYONE
+    #: What each of those may do at most whom the book lists, where its folder lists them too.
+    named: tuple[Listed, ...] = ()
 
     @classmethod
     def of(cls, file: int | Path) -> "Access":
@@ -85,7 +89,8 @@ class Access(Value):
         found = os.stat(file)
         most = limit_of(file, found) & ANYONE
         mode = mode_of(file, found) & limit_of(file, found, found.st_gid) & ANYONE
-        return cls(mode | _OWN, found.st_gid, found.st_mode & most & stat.S_IRWXG, most)
+        listed, named = found.st_mode & most & stat.S_IRWXG, may_of_named(file)
+        return cls(mode | _OWN, found.st_gid, listed, most, named)
 
     @classmethod
     def read_by(cls, process: int, file: int) -> "Access":
@@ -377,8 +382,12 @@ def _give(file: int, folder: int, access: Access, mode: int) -> None:
     Who can't be given its group may do no more than others, nor they more than that group.
     """
     if access.group is not None:
-        with suppress(OSError):
+        try:
+            limit_named(file, access.mode, access.named)
             limit_group(file, access.mode)
+        except OSError:
+            # then the mode limits all of those on the list
+            mode &= access.mode
         mode = _take_group(file, folder, access.mode, access.group, mode)
     if mode & ~_OWN:
         # a file system without modes says that it gives none
