@@ -164,6 +164,79 @@ def test_a_file_of_another_person_gives_nothing_to_the_one_that_replaces_it(
     assert (mode(file), file.stat().st_uid) == (0o640, os.geteuid())
 
 
+@NEEDS_ROOT
+@pytest.mark.parametrize(
+    "owner, folder, may_rename",
+    [
+        *((STRANGER, 0o755, True), (STRANGER, 0o1777, True), (0, 0o777, True)),
+        *((0, 0o1777, False), (0, 0o2775, False), (0, 0o755, False)),
+    ],
+)
+def test_a_file_to_which_a_stranger_may_give_the_name_keeps_no_more_than_a_new_one_gets(
+    tmp_path: Path, owner: int, folder: int, may_rename: bool
+) -> None:
+    out = tmp_path / "out"
+    out.mkdir()
+    os.chown(out, owner, 7)
+    out.chmod(folder)
+    lead_to(tmp_path)
+    public, pages = out / "public.brf", out / "pages.brf"
+    public.write_bytes(b"for all")
+    public.chmod(0o644)
+    said = as_stranger(lambda: public.rename(pages))
+    assert said == ("" if may_rename else "PermissionError")
+    if not may_rename:
+        public.rename(pages)
+    write_whole(pages, b"private", Access(0o600, os.getegid()))
+    assert (pages.read_bytes(), mode(pages)) == (
+        b"private",
+        0o600 if may_rename else 0o644,
+    )
+    assert os.listdir(out) == ["pages.brf"]
+
+
+@NEEDS_ROOT
+@pytest.mark.parametrize(
+    "older, of_older, book, wanted",
+    [
+        *((0o640, 7, 0o644, 0o640), (0o644, 7, 0o640, 0o640)),
+        *((0o440, 7, 0o640, 0o440), (0o600, 7, 0o644, 0o600)),
+        # in both groups is nobody who is known
+        *((0o640, 8, 0o640, 0o600), (0o644, 8, 0o640, 0o640)),
+        *((0o604, 8, 0o644, 0o600), (0o644, 8, 0o644, 0o644)),
+    ],
+)
+def test_there_nobody_may_do_more_with_it_than_with_both_the_older_and_a_new_one(
+    tmp_path: Path, older: int, of_older: int, book: int, wanted: int
+) -> None:
+    tmp_path.chmod(0o777)
+    pages = tmp_path / "pages.brf"
+    pages.write_bytes(b"older")
+    os.chown(pages, -1, of_older)
+    pages.chmod(older)
+    write_whole(pages, b"newer", Access(book, 7))
+    assert (pages.stat().st_gid, mode(pages)) == (7, wanted)
+
+
+@pytest.mark.parametrize("may", [6, 0])
+@pytest.mark.parametrize("gives", [False, True])
+def test_there_neither_the_list_of_the_older_nor_that_of_the_folder_gives_or_takes_more(
+    tmp_path: Path, may: int, gives: bool
+) -> None:
+    tmp_path.chmod(0o777)
+    pages = tmp_path / "pages.brf"
+    pages.write_bytes(b"older")
+    of_older = (2, may, STRANGER), (4, 4, NOBODY), (16, 6, NOBODY), OTHERS
+    give_list(pages, "access", packed(OWNER, *of_older))
+    if gives:
+        of_folder = (2, 6, STRANGER), (4, 6, NOBODY), (16, 6, NOBODY), (32, 4, NOBODY)
+        give_list(tmp_path, "default", packed(OWNER, *of_folder))
+    write_whole(pages, b"newer", Access(0o604, os.getegid()))
+    # others may not read the older, and the group may not read a new one
+    assert mode(pages) == 0o600
+    assert gives or os.listxattr(pages) == []
+
+
 @pytest.mark.parametrize(
     "book, umask, wanted",
     [(0o600, 0o022, 0o600), (0o664, 0o002, 0o664), (0o644, 0o077, 0o600)],

@@ -110,6 +110,8 @@ class Kept(Value):
     #: Its list of access (ACL), if it has one, and what those may do at most who are on that.
     listed: tuple[Listed, ...]
     most: int
+    #: What may be done at most with a file without that list, so that nobody whom it names may do more.
+    limit: int
 
     @classmethod
     def of(cls, file: int) -> "Kept":
@@ -117,7 +119,8 @@ class Kept(Value):
         found = os.fstat(file)
         most = found.st_mode & ANYONE & stat.S_IRWXG
         listed = tuple(access_list(file))
-        return cls(mode_of(file, found) & ANYONE, found.st_gid, listed, most)
+        mode, limit = mode_of(file, found) & ANYONE, limit_of(file, found, found.st_gid)
+        return cls(mode, found.st_gid, listed, most, mode & limit)
 
 
 def _is_read_by(process: int, file: int) -> bool:
@@ -146,8 +149,9 @@ def write_whole(
     when that file gets the name. If anything fails before that, what had the name is as it was;
     `MayNotLast` comes after it, and so does `Swapped`, if another file has the name then. The name
     alone is replaced: a link there is gone and the file that it led to stays as it was, and a pipe
-    of that name isn't opened. A file of one's own keeps its permissions to read and write. Any other
-    gets what is said here and the umask allows. A book or a log is never replaced, nor is a name given
+    of that name isn't opened. A file of one's own keeps its permissions to read and write, but no more
+    than a new one gets where strangers may have given it that name. Any other gets what is said here
+    and the umask allows. A book or a log is never replaced, nor is a name given
     by which a log is looked for. Nor, with `AnotherIsThere`, is what may not be replaced by its front,
     if that is asked, unless it is an empty file, as `mktemp` makes one.
     """
@@ -309,16 +313,24 @@ def _write(
     name: str, folder: int, data: bytes, access: Access, kept: Kept | None
 ) -> os.stat_result:
     """Makes a file with these bytes, on the disk, and says what it is."""
-    mode = _OWN if kept is not None else _allowed(folder, access)
+    whole = None if _is_strangers(folder) else kept
+    mode = _OWN if whole is not None else _allowed(folder, access)
     with open(_made(name, folder, _OWN), "wb") as file:
-        if kept is not None:
-            _keep(file.fileno(), kept)
+        if whole is not None:
+            _keep(file.fileno(), whole)
         else:
-            _give(file.fileno(), folder, access, mode)
+            _give(file.fileno(), folder, access, mode, kept)
         file.write(data)
         file.flush()
         os.fsync(file.fileno())
         return os.fstat(file.fileno())
+
+
+def _is_strangers(folder: int) -> bool:
+    """Whether strangers may give the name of one file in a folder to another that lies there."""
+    found = os.fstat(folder)
+    is_open = found.st_mode & (stat.S_IWOTH | stat.S_ISVTX) == stat.S_IWOTH
+    return is_open or found.st_uid not in (0, os.geteuid())
 
 
 def _made(name: str, folder: int, mode: int) -> int:
@@ -376,10 +388,13 @@ def _group_chosen(folder: int) -> int | None:
     return found.st_gid if found.st_mode & stat.S_ISGID else None
 
 
-def _give(file: int, folder: int, access: Access, mode: int) -> None:
+def _give(
+    file: int, folder: int, access: Access, mode: int, older: Kept | None
+) -> None:
     """Gives a new file, which is its owner's alone so far, its group, and then what its mode allows.
 
-    Who can't be given its group may do no more than others, nor they more than that group.
+    Who can't be given its group may do no more than others, nor they more than that group. Nobody may
+    do more with it than with an older one.
     """
     if access.group is not None:
         try:
@@ -389,10 +404,19 @@ def _give(file: int, folder: int, access: Access, mode: int) -> None:
             # then the mode limits all of those on the list
             mode &= access.mode
         mode = _take_group(file, folder, access.mode, access.group, mode)
-    if mode & ~_OWN:
+    if older is not None:
+        mode &= _limit_of_older(file, older)
+    if mode != _OWN:
         # a file system without modes says that it gives none
         with suppress(OSError):
             os.fchmod(file, mode)
+
+
+def _limit_of_older(file: int, older: Kept) -> int:
+    """What the mode of a new file allows at most, with which nobody may do more than with an older one."""
+    if os.fstat(file).st_gid == older.group and not access_list(file):
+        return older.limit
+    return older.limit & limit_of_another_group(older.limit)
 
 
 def _take_group(file: int, folder: int, meant: int, group: int, mode: int) -> int:
