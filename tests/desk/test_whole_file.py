@@ -306,16 +306,17 @@ def test_others_get_no_more_than_the_group_of_the_book_where_a_folder_gives_anot
 
 
 @NEEDS_ROOT
-@pytest.mark.parametrize("may_give", [True, False])
+@pytest.mark.parametrize("why", [0, errno.EPERM, errno.EINVAL])
 def test_a_new_file_is_for_nobody_else_until_it_has_its_group(
-    tmp_path: Path, monkeypatch: pytest.MonkeyPatch, may_give: bool
+    tmp_path: Path, monkeypatch: pytest.MonkeyPatch, why: int
 ) -> None:
     chown, found = os.fchown, []
 
     def give(file: int, owner: int, group: int) -> None:
         found.append(stat.S_IMODE(os.fstat(file).st_mode))
-        if not may_give:
-            raise PermissionError(errno.EPERM, os.strerror(errno.EPERM))
+        if why:
+            # the second is said of a group that a container doesn't have
+            raise OSError(why, os.strerror(why))
         chown(file, owner, group)
 
     monkeypatch.setattr(os, "fchown", give)
@@ -325,7 +326,7 @@ def test_a_new_file_is_for_nobody_else_until_it_has_its_group(
     finally:
         os.umask(before)
     assert found == [0o600]
-    assert mode(tmp_path / "pages.brf") == (0o660 if may_give else 0o600)
+    assert mode(tmp_path / "pages.brf") == (0o600 if why else 0o660)
     assert os.listdir(tmp_path) == ["pages.brf"]
 
 

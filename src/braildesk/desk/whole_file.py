@@ -431,7 +431,7 @@ def _take_group(file: int, folder: int, meant: int, group: int, mode: int) -> in
     try:
         os.fchown(file, -1, group)
         return mode
-    except PermissionError:
+    except OSError:
         limited = limit_of_another_group(meant)
     with suppress(OSError):
         # the bits of the group would limit all of those on a list
