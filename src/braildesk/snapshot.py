@@ -16,7 +16,7 @@ from pathlib import Path
 from typing import BinaryIO
 
 from braildesk.held import copy_held, is_at_path, open_file
-from braildesk.opening import why_no_log
+from braildesk.opening import has_work, why_no_log
 from braildesk.program import StrPath
 from braildesk.protocol.asked import AskedOfFile, BookFile
 from braildesk.protocol.sentences import Why, of_failure
@@ -94,29 +94,32 @@ def _is_copied(book: BookFile, file: BinaryIO, copied: Path) -> bool:
     log = book.log
     if no_log := why_no_log(log):
         raise cannot_open(book, no_log)
-    try:
-        before = _state(file, log)
-    except PermissionError as error:
-        # the newest work is there
-        raise cannot_open(book, Why.LOG_DENIED) from error
+    before = _state(book, file)
     time.sleep(_TICK)
-    if _state(file, log) != before:
+    if _state(book, file) != before:
         return False
     # so that what is made of the copy is for those whom the book is for
     with open_made(copied, copy_held(file, log, copied)) as made:
         give_list(made.fileno(), file.fileno())
         give_access(made.fileno(), file.fileno())
-    return _state(file, log) == before and is_at_path(book, file)
+    return _state(book, file) == before and is_at_path(book, file)
 
 
-def _state(file: BinaryIO, log: str) -> tuple[int, int, int, bytes]:
+def _state(book: BookFile, file: BinaryIO) -> tuple[int, int, int, bytes]:
     """What is another one once the log was emptied: size and times of the file, the log's header."""
     found = os.fstat(file.fileno())
-    return found.st_size, found.st_mtime_ns, found.st_ctime_ns, _header(log)
+    try:
+        header = _header(book.log)
+    except PermissionError as error:
+        # the newest work is there
+        raise cannot_open(book, Why.LOG_DENIED) from error
+    return found.st_size, found.st_mtime_ns, found.st_ctime_ns, header
 
 
 def _header(log: str) -> bytes:
-    """The header of a log; nothing if there is none yet."""
+    """The header of a log; nothing if there is none yet, or no work after it."""
+    if not has_work(log):
+        return b""
     try:
         flags = os.O_RDONLY | os.O_NOFOLLOW | os.O_NONBLOCK | os.O_CLOEXEC
         with open(os.open(log, flags), "rb", buffering=0) as file:

@@ -16,7 +16,16 @@ from typing import BinaryIO
 
 import pytest
 
-from braildesk import CannotOpen, Failed, Lost, Session, Why, check, program
+from braildesk import (
+    CannotOpen,
+    Failed,
+    Lost,
+    Session,
+    SessionEnded,
+    Why,
+    check,
+    program,
+)
 from braildesk import snapshot as own
 from braildesk.files import contents
 from braildesk.held import copy_held
@@ -25,6 +34,7 @@ from braildesk.protocol.asked import BookFile
 from braildesk.protocol.requests import Correct, Restore, Strike
 from braildesk.snapshot import copied_session, snapshot
 
+from strangers import NEEDS_ROOT, STRANGER, as_stranger, lead_to
 from tool import scribe
 
 #: How many snapshots are taken beside a session that writes without a pause, and how many at once.
@@ -207,6 +217,36 @@ def test_what_is_made_of_a_book_that_is_open_is_for_those_on_its_list_of_access(
             assert (ran.status, "has" in ran.said) == (0, True)
             made = folder / words[-1]
             assert os.getxattr(made, "system.posix_acl_access") == packed(0)
+
+
+@NEEDS_ROOT
+@pytest.mark.parametrize("has_page", [False, True])
+def test_a_book_is_looked_at_where_a_log_that_its_owner_may_not_read_has_no_work(
+    moon: Path, has_page: bool
+) -> None:
+    folder, log = moon.parent, Path(f"{moon}-wal")
+    if has_page:
+        with Session(moon) as session:
+            session.strike(2)
+            os.kill(session.pid, signal.SIGKILL)
+            with pytest.raises(SessionEnded):
+                session.version()
+    else:
+        # as a session of somebody in the group of the book may leave it
+        log.touch()
+    for path, owner in ((moon, STRANGER), (log, STRANGER - 1)):
+        os.chown(path, owner, STRANGER - 2)
+        path.chmod(0o660)
+    lead_to(folder)
+    folder.chmod(0o1777)
+    words = "show {}", "export {} out", "proof {} page.html"
+
+    def look() -> None:
+        asked = [each.format(moon).split() for each in words]
+        ran = [scribe(*each, folder=folder).status for each in asked]
+        assert ran == [2 if has_page else 0] * 3
+
+    assert as_stranger(look) == ""
 
 
 def test_a_pipe_at_the_path_is_no_book(tmp_path: Path) -> None:
