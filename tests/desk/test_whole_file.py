@@ -196,6 +196,24 @@ def test_a_file_to_which_a_stranger_may_give_the_name_keeps_no_more_than_a_new_o
 
 
 @NEEDS_ROOT
+def test_a_file_to_which_a_stranger_gives_a_second_name_keeps_no_more_than_a_new_one_gets(
+    tmp_path: Path,
+) -> None:
+    out = tmp_path / "out"
+    out.mkdir()
+    out.chmod(0o1777)
+    lead_to(tmp_path)
+    public, pages = tmp_path / "public.brf", out / "pages.brf"
+    public.write_bytes(b"for all")
+    # others may write it, so that a system that protects hard links allows another name
+    public.chmod(0o666)
+    assert as_stranger(lambda: os.link(public, pages)) == ""
+    write_whole(pages, b"private", Access(0o600, os.getegid()))
+    assert (pages.read_bytes(), mode(pages)) == (b"private", 0o600)
+    assert (public.read_bytes(), mode(public)) == (b"for all", 0o666)
+
+
+@NEEDS_ROOT
 @pytest.mark.parametrize(
     "older, of_older, book, wanted",
     [

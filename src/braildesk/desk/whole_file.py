@@ -112,6 +112,8 @@ class Kept(Value):
     most: int
     #: What may be done at most with a file without that list, so that nobody whom it names may do more.
     limit: int
+    #: Whether it has another name, so that somebody else may have given it this one.
+    is_linked: bool
 
     @classmethod
     def of(cls, file: int) -> "Kept":
@@ -120,7 +122,8 @@ class Kept(Value):
         most = found.st_mode & ANYONE & stat.S_IRWXG
         listed = tuple(access_list(file))
         mode, limit = mode_of(file, found) & ANYONE, limit_of(file, found, found.st_gid)
-        return cls(mode, found.st_gid, listed, most, mode & limit)
+        is_linked = found.st_nlink > 1
+        return cls(mode, found.st_gid, listed, most, mode & limit, is_linked)
 
 
 def _is_read_by(process: int, file: int) -> bool:
@@ -313,7 +316,8 @@ def _write(
     name: str, folder: int, data: bytes, access: Access, kept: Kept | None
 ) -> os.stat_result:
     """Makes a file with these bytes, on the disk, and says what it is."""
-    whole = None if _is_strangers(folder) else kept
+    is_own = kept is not None and not (kept.is_linked or _is_strangers(folder))
+    whole = kept if is_own else None
     mode = _OWN if whole is not None else _allowed(folder, access)
     with open(_made(name, folder, _OWN), "wb") as file:
         if whole is not None:
