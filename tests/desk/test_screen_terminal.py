@@ -7,9 +7,12 @@ import sys
 import termios
 from pathlib import Path
 
+import pytest
+
 from braildesk.desk.drafts import Drafts
+from prompted import OF_SHELL
 from terminal import Open, once_free
-from tool import at_end, at_terminal, environment, scribe_in_copy
+from tool import at_end, at_terminal, end, environment, scribe_in_copy
 
 #: What sets a colour of letters or of what is behind them.
 COLOURS = re.compile(rb"\x1b\[(?:[0-9]+;)*(?:3[0-8]|4[0-8]|9[0-7]|10[0-7])[;m]")
@@ -112,6 +115,39 @@ def test_the_screen_is_drawn_anew_after_a_shell_had_the_terminal(
     terminal.wait("kept: paragraph 4")
     terminal.keys("escape", "q")
     assert terminal.ended() == 0
+
+
+@pytest.mark.parametrize("is_begun_there", [True, False])
+def test_the_screen_comes_from_the_background_once_a_shell_has_it_in_front(
+    moon: Path, is_begun_there: bool
+) -> None:
+    settings = environment(**OF_SHELL)
+    words = ["--norc", "--noprofile", "-i"]
+    shell = at_terminal("bash", *words, settings=settings, folder=moon.parent)
+    shell.expect_exact("$ ")
+    line = f"'{sys.executable}' -m scribe edit moon.braildesk"
+    # it asks for the terminal, and is stopped by that
+    until_stopped = "until jobs -l | grep -q output; do sleep 0.1; done"
+    if is_begun_there:
+        shell.sendline(f"{line} & {until_stopped}")
+    else:
+        shell.sendline(line)
+        shell.expect_exact("? shows the keys.")
+        children = Path(f"/proc/{shell.pid}/task/{shell.pid}/children")
+        os.kill(int(children.read_text()), signal.SIGSTOP)
+        shell.expect_exact("Stopped")
+        shell.expect_exact("$ ")
+        shell.sendline(f"bg; {until_stopped}")
+    shell.expect_exact("$ ")
+    shell.sendline("fg")
+    shell.expect_exact("? shows the keys.")
+    shell.send("q")
+    shell.expect_exact("moon.braildesk is at version 7.")
+    shell.expect_exact("$ ")
+    # the shell has the terminal in the mode in which it gave it
+    shell.sendline("stty -a")
+    shell.expect_exact("isig icanon iexten echo ")
+    end(shell)
 
 
 def test_a_dumb_terminal_is_refused_and_talk_is_named(moon: Path) -> None:

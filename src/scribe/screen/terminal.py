@@ -21,7 +21,7 @@ from prompt_toolkit import utils
 from prompt_toolkit.application import Application
 from prompt_toolkit.data_structures import Point
 from prompt_toolkit.formatted_text import StyleAndTextTuples
-from prompt_toolkit.input.vt100 import Vt100Input
+from prompt_toolkit.input.vt100 import Vt100Input, raw_mode
 from prompt_toolkit.key_binding.key_processor import KeyPress
 from prompt_toolkit.layout import FormattedTextControl, Layout, Window
 from prompt_toolkit.output.vt100 import Vt100_Output
@@ -75,6 +75,32 @@ _NO_END = "The end of the pasted text didn't come. All that came is taken as pas
 _TOO_SOON = "That key came before the question could be read, and was no answer to it."
 
 
+class _RawMode(raw_mode):
+    """The mode in which keys come one by one, also where scribe was stopped as it asked for that."""
+
+    def __enter__(self) -> None:
+        """Takes the terminal, as soon as a shell gives it."""
+        while True:
+            try:
+                return super().__enter__()
+            except termios.error as failure:
+                if failure.args[0] != errno.EINTR:
+                    raise
+            # as the shell has left it since, it is given back
+            super().__init__(self.fileno)
+
+    def __exit__(self, *_: object) -> None:
+        """Leaves the terminal as it was."""
+        while self.attrs_before is not None:
+            try:
+                termios.tcsetattr(self.fileno, termios.TCSANOW, self.attrs_before)
+            except termios.error as failure:
+                if failure.args[0] == errno.EINTR:
+                    continue
+            # a terminal that was closed needs no care
+            return
+
+
 class _Input(Vt100Input):
     """Hands on the characters of the terminal as they come, and says when no more come."""
 
@@ -82,6 +108,10 @@ class _Input(Vt100Input):
         super().__init__(sys.stdin)
         self._came = came
         self._ended = ended
+
+    def raw_mode(self) -> raw_mode:
+        """What takes the terminal for keys, and gives it back."""
+        return _RawMode(self.stdin.fileno())
 
     def read_keys(self) -> list[KeyPress]:
         """No keys, since what comes is handed on."""
