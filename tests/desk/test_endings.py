@@ -496,6 +496,21 @@ def test_errors_that_can_not_be_written_end_with_3(moon: Path) -> None:
     assert (done.returncode, done.stdout) == (3, b"")
 
 
+@pytest.mark.parametrize("status", [0, 3])
+def test_output_that_is_gone_at_the_end_ends_with_3_without_words_of_python(
+    status: int,
+) -> None:
+    leaving = f"from scribe.cli.endings import leave; print('drawn'); leave({status})"
+    with open("/dev/full", "w") as full:
+        done = subprocess.run(
+            [sys.executable, "-c", leaving],
+            env=environment(PYTHONUNBUFFERED=""),
+            stdout=full,
+            stderr=subprocess.PIPE,
+        )
+    assert (done.returncode, done.stderr) == (3, b"")
+
+
 def test_input_that_can_not_be_read_ends_each_command_that_reads_it(
     sample: Path,
 ) -> None:

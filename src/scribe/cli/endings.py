@@ -63,13 +63,14 @@ def ended(
 
 def leave(status: int) -> NoReturn:
     """Ends the process at once, since to take all apart that was made takes as long as some commands."""
-    try:
-        for stream in (sys.stdout, sys.stderr):
-            # one that was closed at the beginning isn't there
-            if stream is not None:
+    for stream in (sys.stdout, sys.stderr):
+        # one that was closed at the beginning isn't there
+        if stream is not None:
+            try:
                 stream.flush()
-    except OSError:
-        sys.exit(status)
+            except OSError:
+                # Python would say so in words of its own, and end with 120
+                status = Status.FAILED
     os._exit(status)
 
 
