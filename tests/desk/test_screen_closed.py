@@ -218,7 +218,7 @@ def test_what_the_system_refuses_is_said_and_the_screen_stays(
     terminal.keys("U")
     terminal.wait("set aside: “The sun”.")
     terminal.keys("n")
-    terminal.wait("It stays given up.")
+    terminal.wait("It stays set")
     terminal.keys("q")
     assert terminal.ended() == 0
     assert terminal.said == ""

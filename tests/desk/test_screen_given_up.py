@@ -84,7 +84,7 @@ def test_what_was_given_up_comes_back_when_the_book_is_opened_again(
     ]
     assert asked(again).endswith("n is no. U asks about the one before.")
     again.press("n")
-    assert again.state.message == "It stays given up. U asks about it again."
+    assert again.state.message == "It stays set aside. U asks about it again."
     again.press("U", "U", "y", "enter")
     assert again.state.kept == "kept: mark 2"
     # what the book has isn't asked about any more
@@ -245,6 +245,38 @@ def test_a_text_that_is_left_for_later_waits_through_other_work(
     again.press("y", "enter")
     assert again.state.kept == "kept: correction 1 of paragraph 2"
     assert again.desk.drafts.waiting() is None
+
+
+@pytest.mark.parametrize("answer", ["y", "n", "l"])
+def test_a_text_that_is_left_for_later_is_asked_about_after_a_later_one_that_was_broken_off(
+    moon: Path, sit: Sit, answer: str
+) -> None:
+    first = Draft(Aim.EDIT, 2, "en", "The Tides", "The Tide")
+    Drafts(moon).save(first)
+    sat = sit(moon)
+    sat.press("l", "down", "o", *"It rose.")
+    sat.state = sat.desk.save_draft(sat.state)
+    sat.desk.close()
+    again = sit(moon)
+    assert "“It rose.”" in asked(again)
+    again.press(answer, *["enter", "escape"] * (answer == "y"))
+    again.state = again.desk.save_draft(again.state)
+    again.press("U")
+    assert "“The Tide”" in asked(again) or answer == "l"
+    again.press("n", "q")
+    again.desk.close()
+    third = sit(moon)
+    if answer == "l":
+        assert "“It rose.”" in asked(third)
+        third.press("n")
+        third.state = third.desk.save_draft(third.state)
+        third.press("q")
+        third.desk.close()
+        third = sit(moon)
+    assert "“The Tide”" in asked(third)
+    third.press("n")
+    third.state = third.desk.save_draft(third.state)
+    assert Drafts(moon).waiting() is None and not Drafts(moon).later()
 
 
 def test_a_text_that_was_left_for_later_can_be_given_up_when_it_is_asked_about_again(

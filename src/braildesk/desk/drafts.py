@@ -53,6 +53,7 @@ class Begun(Enum):
     """What is kept for a book: each has a file, whose name ends so."""
 
     WAITING = "unsent"
+    LATER = "later"
     GIVEN_UP = "given-up"
     IMPORTS = "imports"
     REPLACEMENTS = "replacements"
@@ -156,6 +157,17 @@ class Drafts:
     def clear(self) -> None:
         """Takes away the text that waits: the book has it, or nobody wants it."""
         self._remove(Begun.WAITING)
+
+    def later(self) -> tuple[Draft, ...]:
+        """The texts that wait until no other one does, the newest first."""
+        return self._read(Begun.LATER, _drafts_in) or ()
+
+    def keep_later(self, texts: Sequence[Draft]) -> None:
+        """Has texts wait so, in place of those that did."""
+        if texts:
+            self._write(Begun.LATER, {"texts": [each.values() for each in texts]})
+        else:
+            self._remove(Begun.LATER)
 
     def put_by(self, draft: Draft) -> tuple[Draft, ...]:
         """Keeps a text as the newest of the last ten given up; the one that waits stays.

@@ -26,7 +26,7 @@ from scribe.screen.typing_keys import is_character, no_table, table_of_new, whil
 _NO_ANSWER = "That key is no answer to the question."
 _READ_ON = "Up and Down go through it."
 _ASKED_LATER = "It is asked again when the book is opened."
-_STAYS_GIVEN_UP = "It stays given up. U asks about it again."
+_STAYS_GIVEN_UP = "It stays set aside. U asks about it again."
 _STAYS_TYPED = "It stays as it is typed. Enter asks again."
 _NOT_DONE = {
     ImportFrom: "Nothing was typed.",

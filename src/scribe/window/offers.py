@@ -112,13 +112,13 @@ class Offers:
             desk.say(STAY)
 
     def _offer_text(self, waiting: Draft) -> None:
-        desk = self.desk
+        desk, offered = self.desk, waiting
         contents = desk.contents
         where = desk.asked(lambda: desk.book.where_kept(contents, waiting))
         if where:
             rest = desk.asked(lambda: desk.book.unkept(contents, waiting))
             if rest is None:
-                desk.unsent.take_on()
+                desk.unsent.take_on(offered)
                 desk.keep_draft(None)
                 numbers = [each.id for each in contents.paragraphs]
                 desk.say(is_in_book(waiting, where, numbers))
@@ -132,7 +132,7 @@ class Offers:
         answers = ("&Type it further", "&Give it up", "&Later")
         answer = desk.offered("Unsent text", asked, answers)
         if answer < 2:
-            desk.unsent.take_on()
+            desk.unsent.take_on(offered)
         if answer == 0:
             self._typed.type_further(waiting)
         elif answer == 1:

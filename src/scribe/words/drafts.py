@@ -21,6 +21,7 @@ from scribe.words.paragraph import counted, quoted
 
 _BEGUN = {
     Begun.WAITING: "What is typed",
+    Begun.LATER: "What is left for later",
     Begun.GIVEN_UP: "What is given up",
     Begun.IMPORTS: "How far the import comes",
     Begun.REPLACEMENTS: "What stands in the place of other characters",
@@ -187,8 +188,10 @@ class Unsent:
         #: That what came before the last end while nothing could be done with it is given up now.
         self.came_last = ""
         self._unread: Unread | None = None
-        # the text that was left for later, and waits again once no other one does
-        self._later: Draft | None = None
+        # the texts that were left for later, the newest first, which waits again once no other one does
+        self._later: tuple[Draft, ...] = ()
+        # those of them that don't wait by now
+        self._put_off: tuple[Draft, ...] = ()
         # what was given up and couldn't be kept, the newest first
         self._here: list[Draft] = []
         #: What was said of that, until it isn't so any more.
@@ -203,6 +206,8 @@ class Unsent:
         self.words = self._drafts.words() or ("", "")
         self.waiting = self._drafts.waiting()
         self.typed_at = self._drafts.typed_at()
+        self._put_off = self._drafts.later()
+        self._later = tuple(each for each in self._put_off if each != self.waiting)
         self._unread = self._drafts.unread()
         if self._unread is not None:
             self._read_unread(self._unread)
@@ -241,8 +246,9 @@ class Unsent:
 
     def keep(self, typed: Draft | None) -> None:
         """Has what is typed wait, or what was left for later, or nothing; may raise `NotKept`."""
-        wanted = typed or self._later
+        wanted = typed or next(iter(self._later), None)
         self._keep_here()
+        self._keep_later(wanted)
         if wanted == self.waiting:
             return
         if wanted is None:
@@ -251,12 +257,19 @@ class Unsent:
                 return
             self._drafts.clear()
         else:
-            if self._later is not None and self.waiting == self._later:
+            if self.waiting is not None and self.waiting in self._later:
                 # it is found there if the machine stops before it waits again
-                older = self._drafts.put_by(self._later)
+                older = self._drafts.put_by(self.waiting)
                 self._older = (*older, *self._older)
             self._drafts.save(wanted)
         self.waiting, self.typed_at = wanted, None
+
+    def _keep_later(self, waiting: Draft | None) -> None:
+        """Keeps the texts that were left for later and don't wait; may raise `NotKept`."""
+        put_off = tuple(each for each in self._later if each != waiting)
+        if put_off != self._put_off:
+            self._drafts.keep_later(put_off)
+            self._put_off = put_off
 
     def _keep_here(self) -> None:
         """Tries again to keep what was given up and couldn't be kept, the oldest first."""
@@ -325,11 +338,12 @@ class Unsent:
 
     def put_off(self) -> None:
         """Leaves the text that waits for later."""
-        self._later = self.waiting
+        if self.waiting is not None and self.waiting not in self._later:
+            self._later = (self.waiting, *self._later)
 
-    def take_on(self) -> None:
-        """The text that was left for later isn't any more: it is typed further, or nobody wants it."""
-        self._later = None
+    def take_on(self, draft: Draft) -> None:
+        """A text that was left for later isn't any more: it is typed further, or nobody wants it."""
+        self._forget(draft.text)
 
     def take_up(self, draft: Draft, text: str) -> None:
         """Has a text be typed further, which was given up or left for later; may raise `NotKept`."""
@@ -342,12 +356,11 @@ class Unsent:
 
     def _forget(self, text: str) -> None:
         """A text that was left for later isn't any more."""
-        if self._later is not None and self._later.text == text:
-            self._later = None
+        self._later = tuple(each for each in self._later if each.text != text)
 
     def texts(self) -> tuple[Draft, ...]:
-        """The text that is left for later, and those given up, the newest first."""
-        first = [*([self._later] if self._later else []), *self._here]
+        """The texts that are left for later, and those given up, the newest first."""
+        first = [*self._later, *self._here]
         try:
             kept = self._drafts.given_up()
         except NotKept:
