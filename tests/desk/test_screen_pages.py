@@ -153,6 +153,14 @@ def test_a_paragraph_without_a_page_says_why(tides: Path, sit: Sit) -> None:
     assert sat.state.pages is None
 
 
+def test_from_a_struck_paragraph_a_page_is_that_of_the_only_volume(
+    moon: Path, sit: Sit
+) -> None:
+    sat = sit(moon)
+    sat.press("down", "down", "s", "g", *"page 1 line 1", "enter")
+    assert (sat.state.message, sat.state.chosen, sat.state.place) == ("", 0, 0)
+
+
 def test_a_cell_that_pages_can_not_have_is_said_where_it_is(
     empty_book: Path, sit: Sit
 ) -> None:

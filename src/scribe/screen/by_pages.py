@@ -22,7 +22,11 @@ def volumes_for(state: State, action: ByPages) -> tuple[VolumeLines, ...]:
     assert state.paragraph is not None
     book, version, its = state.book, state.version, state.paragraph
     found = pagelook.volume_of(book, version, state.page_size, its)
-    return () if found is None else (found,)
+    if found is not None:
+        return (found,)
+    # where the cursor is in none, a page is that of the only one
+    volumes = lists.volumes_of(state) if isinstance(action, ToPage) else ()
+    return volumes if len(volumes) == 1 else ()
 
 
 def shown(
