@@ -215,6 +215,24 @@ def test_a_note_that_waits_is_not_taken_for_a_mark_on_other_words(
     assert "Mark 2, open, on “far”: spelled so?" in " ".join(again.lines)
 
 
+@pytest.mark.parametrize("keys", [["/", *"Tides", "enter"], ["tab", "right"]])
+def test_a_note_is_typed_further_where_the_cursor_was_in_the_print_or_on_cells(
+    moon: Path, sit: Sit, keys: list[str]
+) -> None:
+    sat = sit(moon)
+    sat.press("down", *keys, "m", *"which?")
+    cells, pane = sat.state.chosen_cells, sat.state.pane
+    sat.state = sat.desk.save_draft(sat.state)
+    sat.desk.keep_place(sat.state)
+    sat.desk.close()
+    again = sit(moon)
+    assert "isn't in the book: “which?”" in asked(again)
+    again.press("y")
+    assert (again.state.chosen_cells, again.state.pane) == (cells, pane)
+    again.press("enter")
+    assert again.state.kept == "kept: mark 2" and again.state.pane is pane
+
+
 def test_the_question_says_how_many_lines_wait(moon: Path, sit: Sit) -> None:
     Drafts(moon).save(Draft(Aim.AFTER, 2, "en", "", "It rose.\nIt set.\nIt rose."))
     sat = sit(moon)

@@ -5,6 +5,7 @@ from dataclasses import replace
 from braildesk import Session
 from braildesk.desk.draft import Aim, Draft
 from braildesk.desk.kept_lines import lines_kept, lines_left, mark_kept
+from braildesk.desk.places import words_of
 from braildesk.text.characters import visible
 from braildesk.text.sequences import composed
 from braildesk.text.spans import Span
@@ -16,6 +17,7 @@ from scribe.screen.state import (
     Pane,
     Question,
     State,
+    WordsFound,
     draft_of,
     draft_of_pasted,
     field_of,
@@ -167,9 +169,10 @@ def asked_about(
     # on few lines no more than the end of a question is seen
     field = replace(field_of(saved), said=changed.lstrip(), before=before)
     if saved.aim is Aim.NOTE and places:
-        state = _on_cells(session, state, saved)
-        assert state.paragraph is not None and state.chosen_cells is not None
-        said = on_words(session, state.paragraph.id, state.chosen_cells)
+        number = state.book[places[0]].id
+        cells = _cells_of(session, number, saved)
+        state = _with_chosen(session, state, cells)
+        said = on_words(session, number, cells)
         # on few lines no more than its front is seen: where the note will be
         field = replace(field, said=f"{said}{changed}".strip())
     elif not places and not saved.aim.is_new:
@@ -209,12 +212,23 @@ def unkept(session: Session, state: State, saved: Draft) -> Draft | None:
     return lines_left(session, saved, state.version, numbers)
 
 
-def _on_cells(session: Session, state: State, saved: Draft) -> State:
-    """The state with the cells chosen on which a note would stand."""
+def _cells_of(session: Session, number: int, saved: Draft) -> Span:
+    """The cells on which a note would stand."""
     cells = saved.cells or Span(0, 1)
+    is_there = cells.stop <= len(session.braille_of(number))
+    return cells if is_there else Span(0, 1)
+
+
+def _with_chosen(session: Session, state: State, cells: Span) -> State:
+    """The state with cells chosen, or the words of these in the print where the cursor is there."""
     assert state.paragraph is not None
-    if cells.stop > len(session.braille_of(state.paragraph.id)):
-        cells = Span(0, 1)
+    number = state.paragraph.id
+    text, braille = session.print_of(number), session.braille_of(number)
+    if state.pane is Pane.PRINT and braille:
+        words = words_of(session, number, cells, text, braille)
+        count = words.stop - words.start
+        found = WordsFound(number, Pane.PRINT, words.start, cells, braille, count)
+        return replace(state.at(state.chosen, words.start), found=found)
     return replace(
         state,
         pane=Pane.CELLS,
