@@ -2,6 +2,7 @@
 
 import hashlib
 import os
+import resource
 import signal
 import stat
 from collections.abc import Callable
@@ -698,3 +699,22 @@ def test_a_document_is_imported_on_the_screen_with_what_is_lost(
         "",
         "h",
     ]
+
+
+# what pandoc reads is more than the first one, and what it writes more than the other
+@pytest.mark.parametrize("most", [600 << 10, 1500 << 10])
+def test_a_limit_on_the_size_of_files_that_a_document_needs_more_than_is_named(
+    moon: Path, most: int
+) -> None:
+    moon.with_name("long.md").write_text("The moon is far.\n\n" * 40_000)
+    ran = scribe(
+        *("import", moon.name, "long.md", "--format", "markdown"),
+        folder=moon.parent,
+        before=lambda: resource.setrlimit(resource.RLIMIT_FSIZE, (most, most)),
+    )
+    assert ran == Ran(
+        2,
+        "",
+        "long.md can't be read by pandoc: the limit on the size of files (ulimit -f) is too low. Set a"
+        " higher one, and try again. Nothing was typed.\n",
+    )

@@ -4,15 +4,17 @@ Both are processes of their own with limits on time and memory. pandoc opens no 
 (``--sandbox``), and LibreOffice has a profile of its own, which is gone afterwards.
 """
 
+import errno
 import json
 import os
 import re
+import resource
 import shutil
 import signal
 import subprocess
 import tempfile
-from collections.abc import Sequence
-from contextlib import suppress
+from collections.abc import Iterator, Sequence
+from contextlib import contextmanager, suppress
 from io import BytesIO
 from pathlib import Path, PurePath
 from typing import IO, Any
@@ -39,6 +41,7 @@ from braildesk.desk.documents.rtf_groups import (
     without_parting,
 )
 from braildesk.desk.manuscript import UnreadableText
+from braildesk.protocol.sentences import ENDED_BY
 
 #: How many seconds a program is waited for that has less than a hundredth of them of a processor: it waits for
 #: something that never comes, since one that works has more, even where two dozen others want it too.
@@ -80,10 +83,24 @@ _NO_MEMORY = 251
 _NO_TIME = b"Fatal exception: Signal %d" % signal.SIGXCPU
 #: What they say where something is nested too deeply for them.
 _STACK = b"stack overflow"
+#: What is said where the limit on the size of files is lower than what they write.
+_LIMITED = f"{ENDED_BY[signal.SIGXFSZ]} is too low. Set a higher one, and try again"
 #: How much of what a program says beside its answer is read.
 _SAID_BYTES = 1 << 20
 
 
+@contextmanager
+def _limit_named(name: str) -> Iterator[None]:
+    """Where a limit on the size of files keeps one from being written for a program, names that limit."""
+    try:
+        yield
+    except OSError as fault:
+        if fault.errno != errno.EFBIG:
+            raise
+        raise NotConverted(name, _LIMITED) from fault
+
+
+@_limit_named("pandoc")
 def tree(data: bytes, kind: ManuscriptKind) -> tuple[dict[str, Any], frozenset[str]]:
     """The tree that pandoc makes of the bytes of a file, and the keys of notes that it may lack."""
     pandoc = shutil.which("pandoc")
@@ -118,6 +135,7 @@ def office() -> str | None:
     return next(filter(None, map(shutil.which, _OFFICE)), None)
 
 
+@_limit_named("LibreOffice")
 def as_docx(data: bytes, kind: ManuscriptKind, name: str) -> bytes:
     """A document as LibreOffice writes it in DOCX, with its name where fields show that."""
     program = office()
@@ -238,5 +256,8 @@ def _failure(name: str, status: int, errors: bytes) -> UnreadableText:
     if _STACK in errors:
         return NoDocument(WhyNot.TOO_DEEP)
     if status == -signal.SIGXFSZ:
-        return NoDocument(WhyNot.TOO_LARGE)
+        # without one of the process, it is that which is set for all
+        _, most = resource.getrlimit(resource.RLIMIT_FSIZE)
+        is_own = most == resource.RLIM_INFINITY or most >= _TREE_BYTES
+        return NoDocument(WhyNot.TOO_LARGE) if is_own else NotConverted(name, _LIMITED)
     return NotConverted(name, " ".join(errors.decode(errors="replace").split()))
