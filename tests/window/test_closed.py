@@ -42,8 +42,7 @@ def stays(monkeypatch: pytest.MonkeyPatch) -> list[str]:
         asked.append(said)
         return 1
 
-    for module in ("desk", "dialogs"):
-        monkeypatch.setattr(f"scribe.window.{module}.choice", choice)
+    monkeypatch.setattr(dialogs, "choice", choice)
     return asked
 
 

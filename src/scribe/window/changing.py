@@ -192,7 +192,7 @@ class Changing:
         unseen = filter(None, [not_seen(further.unseen(found))])
         said = " ".join([*before, *unseen, how_many(further.wanted, found)])
         asked = f"{said} The first one:\n\n{front}"
-        return dialogs.choice(self.desk.window, _TITLE, asked, _OF_ALL)
+        return self.desk.answer(_TITLE, asked, _OF_ALL)
 
     def _do(
         self,
@@ -237,7 +237,7 @@ class _PlaceByPlace:
         while self.open:
             its, nth = self.open[0], count - len(self.open) + 1
             lines = "\n".join(proposal_lines(its, nth, count, _WIDTH))
-            answer = dialogs.choice(desk.window, _TITLE, lines, _OF_A_PLACE)
+            answer = desk.answer(_TITLE, lines, _OF_A_PLACE)
             if answer >= 2:
                 return answer == 2
             desk.asked(partial(self._answered, its, answer == 0))

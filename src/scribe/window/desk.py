@@ -46,7 +46,7 @@ from scribe.window.book import (
     Opening,
     ChosenParagraph,
 )
-from scribe.window.dialogs import IsStopped, Say, choice, offer
+from scribe.window.dialogs import IsStopped, Say, ask, offer
 from scribe.window.fields import LINE_END
 from scribe.window.held import Held
 from scribe.window.menus import MENUS
@@ -1021,20 +1021,32 @@ class Desk:
         self, title: str, asked: str, answers: Sequence[str], *by_enter: int
     ) -> int:
         """The answer to what no key has asked for; a text that was typed there is given up."""
-
-        def keep(text: str) -> None:
-            its = self._of_new(text)
-            self._at_offer = Unread("", its, is_at_offer=True) if text else None
-            self._keep_unread(self._at_offer)
-
         self._is_offering = True
-        answer = offer(self.window, title, asked, answers, keep, *by_enter)
-        if self.is_ending:
-            return answer
-        self._is_offering = False
+        its = self.window, title, asked, answers, self._keep_at_offer
+        answer = offer(*its, *by_enter)
+        if not self.is_ending:
+            self._is_offering = False
+            self._put_by_at_offer()
+        return answer
+
+    def answer(self, title: str, asked: str, answers: Sequence[str]) -> int:
+        """The answer to what a key has asked for; a text that was typed on there is given up."""
+        answer = ask(self.window, title, asked, answers, self._keep_at_offer)
+        if not self.is_ending:
+            self._put_by_at_offer()
+        return answer
+
+    def _keep_at_offer(self, text: str) -> None:
+        """Keeps a text that is typed where something is asked, until that is answered."""
+        its = self._of_new(text)
+        self._at_offer = Unread("", its, is_at_offer=True) if text else None
+        self._keep_unread(self._at_offer)
+
+    def _put_by_at_offer(self) -> None:
+        """Gives up a text that was typed where something was asked, and says so."""
         typed, self._at_offer = self._at_offer, None
         if typed is None:
-            return answer
+            return
         draft = typed.rest
 
         def put_by() -> str:
@@ -1046,7 +1058,6 @@ class Desk:
         how = self.aside.result(put_by, False)
         # also where what was answered is refused
         self.say_after(f"{typed_at_offer(draft.text)} {how}")
-        return answer
 
     def say_too(self, sentence: str) -> None:
         """Says something after what is said already."""
@@ -1469,10 +1480,10 @@ class Desk:
         said = self.window.message.text
         if self.draft() is None:
             # all is in the book, which is elsewhere by now
-            return choice(self.window, "Closed", said, _OF_CLOSING) == 0
+            return self.answer("Closed", said, _OF_CLOSING) == 0
         if not self.is_waiting():
             # it is said once, also where the message has it
             said = f"{said.replace(_ONLY_HERE, '').rstrip()}\n\n{_ONLY_HERE}"
             return self.offered("Not kept", said, _OF_CLOSING, _STAYS) == 0
         waits = "What is typed waits, and is offered when the book is opened again."
-        return choice(self.window, "Not kept", f"{said}\n\n{waits}", _OF_CLOSING) == 0
+        return self.answer("Not kept", f"{said}\n\n{waits}", _OF_CLOSING) == 0

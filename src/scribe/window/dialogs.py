@@ -1,5 +1,6 @@
 """What is asked of a person, and what is reported, in windows over the one of the book."""
 
+import math
 import time
 from collections.abc import Callable, Iterator, Sequence
 from concurrent.futures import Future
@@ -45,6 +46,8 @@ Part = TypeVar("Part", bound=QWidget)
 #: Says how far something is that takes long; and whether it is to end.
 Say = Callable[[str], None]
 IsStopped = Callable[[], bool]
+# for so long a question stands before Space alone, which may come from a text, is an answer to it
+_READING_SECONDS = 0.3
 # keys that go from one button to another, of which the last are those of a text too
 _TABS = (Qt.Key.Key_Tab, Qt.Key.Key_Backtab)
 _ARROWS = (*(Qt.Key.Key_Left, Qt.Key.Key_Right), *(Qt.Key.Key_Up, Qt.Key.Key_Down))
@@ -228,24 +231,46 @@ def offer(
     Qt would take the first letter of an answer for it, Space for the answer that has the focus, and the
     Enter after the text too.
     """
-    application, blind = QApplication.instance(), _Blind(typed)
-    assert application is not None
-    application.installEventFilter(blind)
-    try:
+    with _Blind(typed).taking():
         return choice(over, title, sentence, answers, *by_enter)
-    finally:
-        application.removeEventFilter(blind)
+
+
+def ask(
+    over: QWidget,
+    title: str,
+    sentence: str,
+    answers: Sequence[str],
+    typed: Callable[[str], None],
+) -> int:
+    """Asks what a key has asked for: the same, but Space alone answers once that could be read."""
+    with _Blind(typed, _READING_SECONDS).taking():
+        return choice(over, title, sentence, answers)
 
 
 class _Blind(QObject):
-    """Takes the text that is typed where buttons have the focus, with the ends of its lines."""
+    """Takes the text that is typed where buttons have the focus, with the ends of its lines.
 
-    def __init__(self, typed: Callable[[str], None]) -> None:
+    Space alone is no text from when it has been asked for some time, if ever.
+    """
+
+    def __init__(self, typed: Callable[[str], None], reading: float = math.inf) -> None:
         super().__init__()
         self._hand_on = typed
         self._text = ""
+        self._reading, self._read_at = reading, math.inf
         # Enter and Space press a button that was gone to
         self._is_gone_to = self._is_said = False
+
+    @contextmanager
+    def taking(self) -> Iterator[None]:
+        """Takes what is typed at the question that is asked meanwhile."""
+        application = QApplication.instance()
+        assert application is not None
+        application.installEventFilter(self)
+        try:
+            yield
+        finally:
+            application.removeEventFilter(self)
 
     @property
     def _is_text(self) -> bool:
@@ -256,6 +281,8 @@ class _Blind(QObject):
         """Takes letters, what takes them away, and Space and Enter unless a button was gone to."""
         if not isinstance(to, (QPushButton, QMessageBox)):
             return False
+        if event is not None and event.type() == QEvent.Type.Show:
+            self._read_at = time.monotonic() + self._reading
         text = self._after(event)
         if text is None:
             return False
@@ -281,12 +308,18 @@ class _Blind(QObject):
             self._is_gone_to = True
         elif key == Qt.Key.Key_Backspace and text:
             return text[:-1]
-        elif key in ENTER and self._is_text and not self._is_gone_to:
+        elif key in ENTER and text.strip() and not self._is_gone_to:
             # a second one gives the answer that does least
             return None if text.endswith("\n") else f"{text}\n"
-        elif is_letter(event) and not (self._is_gone_to and event.text() == " "):
+        elif is_letter(event) and not (event.text() == " " and self._is_answer):
             return text + event.text()
         return None
+
+    @property
+    def _is_answer(self) -> bool:
+        """Whether Space presses a button: it was gone to, or no text is typed on and that was read."""
+        is_read = time.monotonic() >= self._read_at
+        return self._is_gone_to or is_read and not self._text.strip()
 
     def _say(self, to: QWidget) -> None:
         """Says once that nothing was answered, and goes to the last answer, which does least."""

@@ -153,7 +153,7 @@ class Files:
         number = desk.number
         where = "" if number is None else f" after paragraph {number}"
         asked = f"{path.name} was pasted. Shall its text be imported{where}?"
-        if dialogs.choice(desk.window, "Import", asked, ("&Yes", "&No")):
+        if desk.answer("Import", asked, ("&Yes", "&No")):
             desk.say("Nothing was typed.")
         else:
             self.imported(path)
@@ -204,7 +204,7 @@ class Files:
         if is_offer:
             answer = desk.offered("Import", asked, answers)
         else:
-            answer = dialogs.choice(desk.window, "Import", asked, answers)
+            answer = desk.answer("Import", asked, answers)
         if answer == 0:
             self.imported(path, undecided.way)
         elif note is not None and answer == 1:

@@ -117,7 +117,7 @@ class Typed:
         asked = f"The last action did this: {deed.what}. Shall all of it be taken back?"
         if deed.taken:
             asked = deed.question
-        answer = dialogs.choice(desk.window, "Take back", asked, ("&Yes", "&No"))
+        answer = desk.answer("Take back", asked, ("&Yes", "&No"))
         if answer:
             desk.say("Nothing was taken back.")
         return answer == 0
@@ -148,7 +148,7 @@ class Typed:
             f" Shall it go on in a new paragraph from {quoted(lines[1])} on?"
         )
         answers = ("&Yes", "&No")
-        if dialogs.choice(desk.window, "A long paragraph", asked, answers):
+        if desk.answer("A long paragraph", asked, answers):
             desk.say("It stays as it is typed. Enter asks again.")
             desk.until_typed()
         else:
@@ -275,7 +275,7 @@ class Typed:
         answers = [_PARAGRAPHS, _ONE, "&Give them up"]
         if len(joined) > MOST_OF_ONE:
             answers.remove(_ONE)
-        answer = answers[dialogs.choice(desk.window, "Typed lines", asked, answers)]
+        answer = answers[desk.answer("Typed lines", asked, answers)]
         if desk.is_ending:
             return
         if answer == _ONE:
@@ -351,7 +351,7 @@ class Typed:
         paragraphs = lines[:-1] if is_before else _between(front, lines, back)
         # until that is answered the lines wait as paragraphs
         self._wait(self._draft_of(paragraphs, Aim.BEFORE if is_before else None))
-        answer = dialogs.choice(desk.window, "Pasted lines", said, answers)
+        answer = desk.answer("Pasted lines", said, answers)
         if desk.is_ending:
             return
         desk.beside = None

@@ -64,7 +64,7 @@ class Volumes:
         said = "\n".join([whole, *lines[:12], *_more(lines[12:]), *to_begin(changed)])
         asked = f"{said}\nShall the volumes be set so?"
         answers = ("&Yes", "&No")
-        if dialogs.choice(desk.window, "Part into volumes", asked, answers):
+        if desk.answer("Part into volumes", asked, answers):
             desk.say("Nothing was changed.")
             return
         self._set(changed)

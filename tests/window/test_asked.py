@@ -1,0 +1,262 @@
+"""What is typed on where the window asks something: it answers nothing, and is set aside."""
+
+from collections.abc import Callable
+from pathlib import Path
+from typing import Any
+
+import pytest
+from PyQt6.QtCore import Qt, QTimer
+from PyQt6.QtTest import QTest
+from PyQt6.QtWidgets import QApplication, QMessageBox, QPushButton, QWidget
+
+from braildesk import Style, requests
+from braildesk.desk.draft import Aim, Draft
+from braildesk.desk.drafts import Drafts
+from braildesk.desk.layout import PageSize
+
+from scribe.window import dialogs
+from scribe.window.desk import Desk
+from scribe.window.files import Files
+
+from conftest import Open, prints
+from reader import Reader
+
+_NO_ANSWER = "What is typed here is no answer. Tab goes to one, and Enter gives it."
+_ASIDE = "What was typed at the question is set aside: “{}”. Ctrl+B brings it back."
+# its types are those of an object, of which Qt makes none
+_HANDS: Any = QTest
+# more than a paragraph has room for
+_LONG = " ".join(["abcdefghi"] * 520)
+
+
+def _lines(desk: Desk, path: Path) -> None:
+    desk.act("new_after")
+    desk.window.print.pasted.emit(["One.", "Two."])
+
+
+def _long(desk: Desk, path: Path) -> None:
+    desk.act("new_after")
+    desk.window.print.insertPlainText(_LONG)
+    desk.act("keep")
+
+
+def _not_kept(desk: Desk, path: Path) -> None:
+    desk.window.print.insertPlainText("#")
+    assert not desk.window.close()
+
+
+def _change_all(desk: Desk, path: Path) -> None:
+    desk.act("change_all")
+
+
+def _take_back(desk: Desk, path: Path) -> None:
+    path.write_text("One.\n\nTwo.\n")
+    desk.acting(lambda: Files(desk).imported(path))
+    desk.act("take_back")
+
+
+def _import(desk: Desk, path: Path) -> None:
+    path.write_text("One.\n\nTwo.\n")
+    desk.window.print.files_pasted.emit([path])
+
+
+def _part(desk: Desk, path: Path) -> None:
+    desk.page_size = PageSize(10, 4)
+    for number in (1, 3):
+        desk.do(requests.Style(number, Style.HEADING))
+    desk.act("part")
+
+
+def _typed_lines(desk: Desk, path: Path) -> None:
+    desk.put_by(Draft(Aim.AFTER, 1, "en", "", "One.\nTwo."))
+    desk.act("bring_back")
+
+
+@pytest.fixture
+def others(monkeypatch: pytest.MonkeyPatch) -> None:
+    """What is answered where a line is typed or chosen; and reports aren't waited for."""
+    words = ["a", "one"], [True, False]
+    monkeypatch.setattr(dialogs, "fields", lambda *_: words)
+    monkeypatch.setattr(dialogs, "text", lambda *_: "2")
+    monkeypatch.setattr(dialogs, "one_of", lambda *its: its[3][0])
+    monkeypatch.setattr(dialogs, "report", lambda *_: None)
+
+
+def _at_question(does: Callable[[QPushButton, QMessageBox], None]) -> list[str]:
+    """Does something once a question can be answered, and gives its title then."""
+    titles: list[str] = []
+
+    def look() -> None:
+        button, box = QApplication.focusWidget(), QApplication.activeModalWidget()
+        if not isinstance(box, QMessageBox) or not isinstance(button, QPushButton):
+            QTimer.singleShot(10, look)
+            return
+        titles.append(box.windowTitle())
+        does(button, box)
+
+    QTimer.singleShot(0, look)
+    return titles
+
+
+@pytest.mark.parametrize(
+    "ask, title, last",
+    [
+        (_lines, "Pasted lines", "&Neither"),
+        (_long, "A long paragraph", "&No"),
+        (_not_kept, "Not kept", "&Stay"),
+        (_change_all, "Change everywhere", "&Cancel"),
+        (_take_back, "Take back", "&No"),
+        (_import, "Import", "&No"),
+        (_part, "Part into volumes", "&No"),
+        (_typed_lines, "Typed lines", "&Give them up"),
+    ],
+)
+@pytest.mark.parametrize("text", ["und hier", "hallo du da", "I say so", "y n c a p"])
+def test_a_text_that_is_typed_on_at_a_question_answers_nothing_and_is_set_aside(
+    desk: Desk,
+    others: None,
+    tmp_path: Path,
+    ask: Callable[[Desk, Path], None],
+    title: str,
+    last: str,
+    text: str,
+) -> None:
+    typed, said, focused = list[str](), list[str](), list[str]()
+
+    def type_on(button: QPushButton, box: QMessageBox) -> None:
+        for letter in text:
+            if box.isVisible():
+                _HANDS.keyClicks(box.focusWidget(), letter)
+                typed.append(letter)
+        if box.isVisible():
+            # Enter belongs to the text, and a second one answers what does least
+            _HANDS.keyClick(box.focusWidget(), Qt.Key.Key_Return)
+            said.append(box.text())
+            focused.extend(each.text() for each in box.buttons() if each.hasFocus())
+            box.close()
+
+    version = desk.contents.version
+    titles = _at_question(type_on)
+    ask(desk, tmp_path / "text.txt")
+    assert ("".join(typed), titles, focused) == (text, [title], [last])
+    assert said[0].endswith(f"\n\n{_NO_ANSWER}")
+    assert desk.window.message.text.endswith(_ASIDE.format(text))
+    assert text in [each.text for each in Drafts(desk.path).given_up()]
+    assert Drafts(desk.path).unread() is None
+    if ask not in (_take_back, _part):
+        assert desk.asked(desk.book.contents).version == version
+
+
+@pytest.mark.parametrize(
+    "keys, answer",
+    [
+        (" ", 0),
+        ("\r", 0),
+        ("\t ", 1),
+        ("\t\t\r", 2),
+        # that is no text any more
+        ("x\b ", 0),
+        ("xy\t ", 1),
+        # a letter alone is no answer either, and the Enter after it only says so
+        ("p\r\r", 2),
+        ("xy\r\r", 2),
+        ("x y\r ", None),
+    ],
+)
+def test_space_and_enter_alone_press_the_button_that_has_the_focus(
+    application: QApplication,
+    monkeypatch: pytest.MonkeyPatch,
+    keys: str,
+    answer: int | None,
+) -> None:
+    monkeypatch.setattr(dialogs, "_READING_SECONDS", 0.0)
+    over, left = QWidget(), list[str]()
+
+    def press(button: QPushButton, box: QMessageBox) -> None:
+        its = {
+            "\r": Qt.Key.Key_Return,
+            "\t": Qt.Key.Key_Tab,
+            "\b": Qt.Key.Key_Backspace,
+        }
+        for nth, key in enumerate(keys):
+            if not box.isVisible():
+                left.append(keys[nth:])
+                return
+            _HANDS.keyClick(box.focusWidget(), its.get(key, key))
+        if box.isVisible():
+            left.append("open")
+            box.close()
+
+    _at_question(press)
+    answers = ("&Paragraphs", "&One", "&Neither")
+    given = dialogs.ask(over, "Lines", "What are they?", answers, lambda text: None)
+    assert (given, left) == ((2, ["open"]) if answer is None else (answer, []))
+
+
+def test_a_space_that_comes_before_a_question_could_be_read_begins_a_text(
+    application: QApplication, monkeypatch: pytest.MonkeyPatch
+) -> None:
+    monkeypatch.setattr(dialogs, "_READING_SECONDS", 3600.0)
+    over, typed = QWidget(), list[str]()
+
+    def press(button: QPushButton, box: QMessageBox) -> None:
+        _HANDS.keyClicks(box.focusWidget(), " ")
+        if box.isVisible():
+            _HANDS.keyClicks(box.focusWidget(), "und hier")
+            box.close()
+
+    _at_question(press)
+    answers = ("Change &all", "Ask at each &place", "&Cancel")
+    assert dialogs.ask(over, "Change", "So?", answers, typed.append) == 2
+    assert typed[-1] == "und hier"
+
+
+def _of_lines(window: Reader) -> None:
+    # the lines of a report are copied, and pasted into a new paragraph
+    window.press("F1")
+    window.dialog("Keys")
+    window.press("Ctrl+a", "Ctrl+c", "Escape")
+    window.no_dialog()
+    window.press("Ctrl+Return")
+    window.focus("text", "Print")
+    window.press("Ctrl+v")
+
+
+def _of_length(window: Reader) -> None:
+    window.press("Ctrl+Return")
+    window.focus("text", "Print")
+    window.insert("Print", _LONG)
+    window.reads("Print", _LONG)
+    window.press("Return")
+
+
+def _of_closing(window: Reader) -> None:
+    window.press("F2")
+    window.focus("text", "Print")
+    window.type("#")
+    window.reads("Print", "#The Moon")
+    window.press("Ctrl+q")
+
+
+@pytest.mark.parametrize(
+    "ask, title, text",
+    [
+        (_of_lines, "Pasted lines", "und hier"),
+        (_of_lines, "Pasted lines", "hallo du da"),
+        (_of_length, "A long paragraph", "abcde fghij"),
+        (_of_closing, "Not kept", "weiter so"),
+    ],
+)
+def test_what_hands_type_on_at_a_question_of_a_window_is_brought_back(
+    moon: Path, at: Open, ask: Callable[[Reader], None], title: str, text: str
+) -> None:
+    window = at(moon)
+    ask(window)
+    window.dialog(title)
+    window.type(text)
+    window.press("Return", "Return")
+    window.no_dialog()
+    window.says(_ASIDE.format(text))
+    assert text in [each.text for each in Drafts(moon).given_up()]
+    window.kill()
+    assert len(prints(moon)) == 3
