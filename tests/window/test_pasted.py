@@ -100,6 +100,24 @@ def test_what_stands_after_the_caret_stays_after_pasted_paragraphs(
     assert its == (2 if place == 0 else 0)
 
 
+@pytest.mark.parametrize(
+    "place, text, wanted",
+    [
+        (4, "One.\nTwo. ", ("Two. Moon", len("Two. "))),
+        (4, "One.\nTwo.\n", ("Moon", 0)),
+        (0, "One.\nTwo.\n", ("Two.", len("Two."))),
+        (8, "\nrose.\nTwo.\n", ("Two.", len("Two."))),
+    ],
+)
+def test_what_is_typed_after_pasted_paragraphs_comes_after_them(
+    desk: Desk, given: Answers, place: int, text: str, wanted: tuple[str, int]
+) -> None:
+    given["choices"] = [0]
+    desk.window.print.put_caret(place)
+    pasted(desk, Text=text)
+    assert (desk.window.print.text, desk.window.print.place) == wanted
+
+
 def test_a_paragraph_and_those_after_it_of_pasted_lines_are_taken_back_together(
     desk: Desk, given: Answers
 ) -> None:

@@ -153,7 +153,6 @@ class Typed:
             desk.until_typed()
         else:
             self.typed_lines(lines)
-            desk.window.print.put_caret(len(desk.window.print.text))
         desk.window.print.setFocus()
         return True
 
@@ -358,7 +357,7 @@ class Typed:
         if answer == 0:
             if is_before:
                 desk.begin_new(New(Aim.BEFORE, desk.number, desk.table_of_new()))
-            self.typed_lines(paragraphs)
+            self.typed_lines(paragraphs, "" if is_before else composed(back.lstrip()))
             return
         joined = " ".join(lines)
         count = len(front) + len(joined) + len(back)
@@ -396,8 +395,11 @@ class Typed:
         before = desk.before() if new else desk.typed_from()
         return Draft(*its, table, before, text)
 
-    def typed_lines(self, lines: Sequence[str]) -> None:
-        """Types paragraphs: the first is what is typed, the others come after it."""
+    def typed_lines(self, lines: Sequence[str], behind: str = "") -> None:
+        """Types paragraphs: the first is what is typed, the others come after it.
+
+        The caret is at the end of the last one then, or before what was there behind the others.
+        """
         desk = self.desk
         reading, new, number = desk.reading, desk.new, desk.number
         table = desk.table_of_typed() or desk.table_of_new()
@@ -421,6 +423,8 @@ class Typed:
             self._wait(others)
         commands += [_typed_after(number, table, line) for line in lines[1:]]
         self._typed_all(commands, done)
+        text = desk.window.print.text
+        desk.window.print.put_caret(len(text.removesuffix(behind)))
 
     def _wait(self, lines: Draft | None) -> None:
         """Has lines wait until the book has them, which lacks them as it is now."""
