@@ -2,6 +2,7 @@
 
 import os
 import signal
+from collections.abc import Sequence
 from dataclasses import replace
 from pathlib import Path
 
@@ -518,3 +519,38 @@ def test_a_long_text_is_parted_only_where_it_is_too_long(
     desk.act("give_up")
     *first, second = prints_of(desk)[1:3]
     assert (f"{first[0]} {second}", len(prints_of(desk))) == (text, 5)
+
+
+def test_texts_of_a_long_paragraph_are_told_by_where_they_are_not_as_the_book(
+    desk: Desk, given: Answers, monkeypatch: pytest.MonkeyPatch
+) -> None:
+    before = "The moon goes around the earth, and twice a day the sea comes up."
+    texts = [
+        before.replace("twice", "three times"),
+        f"{before} So it is.",
+        before.removesuffix(" up."),
+        f"So: {before}",
+        "The Moon",
+    ]
+    for text in texts:
+        desk.put_by(Draft(Aim.EDIT, 1, "en", before, text))
+    told: list[str] = []
+
+    def one_of(
+        over: object, title: str, asked: str, names: Sequence[str], first: int
+    ) -> None:
+        told.extend(names)
+
+    monkeypatch.setattr(dialogs, "one_of", one_of)
+    desk.act("bring_back")
+    assert told == [
+        "1. A text of paragraph 1: “The Moon”",
+        "2. A text of paragraph 1: “So: The moon goes around the earth, and…”",
+        "3. A text of paragraph 1: “… comes”",
+        "4. A text of paragraph 1: “… up. So it is.”",
+        "5. A text of paragraph 1: “… three times a day the sea comes up.”",
+    ]
+    given["choices"] = [2]
+    Drafts(desk.path).save(Draft(Aim.EDIT, 1, "en", before, texts[1]))
+    desk.acting(Actions(desk).offer)
+    assert "isn't in the book: “… up. So it is.”." in given["said"][0]

@@ -13,7 +13,7 @@ from braildesk.desk.unfinished import NotSeen, Unfinished
 from scribe.window.changing import Changing
 from scribe.window.desk import Desk
 from scribe.window.files import Files
-from scribe.window.typed import Typed
+from scribe.window.typed import Typed, in_short
 from scribe.words.change_all import STAY, cut_short
 from scribe.words.drafts import (
     is_in_book,
@@ -25,7 +25,6 @@ from scribe.words.drafts import (
 )
 from scribe.words.import_text import came_to, not_seen
 from scribe.words.links import led
-from scribe.words.paragraph import quoted
 
 
 class Offers:
@@ -125,7 +124,7 @@ class Offers:
                 return
             waiting = rest
         asked = (
-            f"{what_for(waiting)} was typed and isn't in the book: {quoted(waiting.joined)}."
+            f"{what_for(waiting)} was typed and isn't in the book: {in_short(waiting)}."
             f"{where_typed(desk.unsent.typed_at)}{self._typed.changed_since(waiting)}"
             " Shall it be typed further?"
         )

@@ -4,6 +4,7 @@ import signal
 from collections.abc import Callable, Sequence
 from contextlib import suppress
 from dataclasses import replace
+from os.path import commonprefix
 from typing import Any
 
 from PyQt6.QtCore import QTimer
@@ -14,6 +15,7 @@ from braildesk.desk.drafts import NotKept
 from braildesk.desk.kept_lines import LinesLeft
 from braildesk.protocol.requests import Command
 from braildesk.text import limits
+from braildesk.text.characters import visible
 from braildesk.text.sequences import composed, parted
 from braildesk.text.spans import Span
 
@@ -191,9 +193,7 @@ class Typed:
         texts = desk.aside.result(desk.unsent.texts, False)
         if not texts:
             raise Stop("No text was given up in this book.")
-        names = [
-            f"{n}. {what_for(t)}: {quoted(t.joined)}" for n, t in enumerate(texts, 1)
-        ]
+        names = [f"{n}. {what_for(t)}: {in_short(t)}" for n, t in enumerate(texts, 1)]
         asked = "Which text shall be typed further?"
         name = dialogs.one_of(desk.window, "Bring back a text", asked, names, 0)
         if name is not None:
@@ -519,6 +519,20 @@ class Typed:
             desk.beside = left
             with suppress(NotKept):
                 desk.unsent.keep(left)
+
+
+def in_short(draft: Draft) -> str:
+    """The first words of a text, or those from where it isn't as the print where it was typed was.
+
+    Of two texts of a long paragraph the first words are the same.
+    """
+    text = draft.joined
+    first, same = quoted(text), len(commonprefix((text, draft.before)))
+    is_seen = first == f"“{visible(text)}”" or same < len(first) - len("“…”")
+    if draft.aim is not Aim.EDIT or is_seen:
+        return first
+    # a word that is another one in its middle is told whole
+    return quoted(f"… {text[text.rfind(' ', 0, same) + 1 :]}")
 
 
 def _pieces(text: str) -> list[str]:
