@@ -260,3 +260,47 @@ def test_what_hands_type_on_at_a_question_of_a_window_is_brought_back(
     assert text in [each.text for each in Drafts(moon).given_up()]
     window.kill()
     assert len(prints(moon)) == 3
+
+
+def test_what_is_typed_on_at_a_question_is_kept_also_where_the_program_is_killed(
+    moon: Path, at: Open
+) -> None:
+    window = at(moon)
+    _of_length(window)
+    window.dialog("A long paragraph")
+    window.type("abcde fghij")
+
+    def is_kept() -> bool:
+        found = Drafts(moon).unread()
+        return found is not None and found.text_of_all == "abcde fghij"
+
+    window.until("it is kept", is_kept)
+    window.kill()
+    window = at(moon, is_waited_for=False)
+    window.dialog("Unsent text")
+    window.press("Escape")
+    window.no_dialog()
+    window.opened()
+    window.says(_ASIDE.format("abcde fghij"))
+    waiting = Drafts(moon).waiting()
+    assert waiting is not None and waiting.text == _LONG
+
+
+@pytest.mark.parametrize(
+    "answer",
+    [
+        lambda window, box: window.press("Alt+n"),
+        lambda window, box: window.press("Tab", " "),
+        lambda window, box: window.press("Escape"),
+        lambda window, box: window.click(window.part("push button", "No", box)),
+    ],
+)
+def test_a_question_of_a_window_is_answered_by_what_types_nothing(
+    moon: Path, at: Open, answer: Callable[[Reader, object], None]
+) -> None:
+    window = at(moon)
+    _of_length(window)
+    answer(window, window.dialog("A long paragraph"))
+    window.no_dialog()
+    window.reads("Message", "It stays as it is typed. Enter asks again.")
+    assert not Drafts(moon).given_up()
