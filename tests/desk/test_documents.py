@@ -1408,8 +1408,15 @@ def test_a_paragraph_of_an_odt_is_noted_that_is_emphasized_by_its_style_but_head
         f'<text:p text:style-name="{name}">In {name}</text:p>' for name in names
     )
     text += '<text:h text:outline-level="1" text:style-name="P1">A heading</text:h>'
-    found = read_manuscript(odt(tmp_path / "a.odt", text, own, styles))
+    # one that is struck out is said, whatever else it is, but for words that aren't
+    struck = 'style:text-line-through-style="{}"'
+    own += style("H1", "Warning", struck.format("solid"))
+    left = style("T1", "", struck.format("none")).replace('"paragraph"', '"text"')
+    span = '<text:span text:style-name="T1"> left</text:span>'
+    text += f'<text:h text:outline-level="1" text:style-name="H1">Struck{span}</text:h>'
+    found = read_manuscript(odt(tmp_path / "a.odt", text, own + left, styles))
     emphasized = [f"In {name}" for name in "P0 P1 P2 P4 P5 P6 P9".split()]
+    emphasized.append("Struck")
     assert lost(found, LossKind.EMPHASIS) == emphasized
 
 
@@ -2680,12 +2687,12 @@ def test_a_paragraph_of_a_page_is_noted_that_a_sheet_alone_emphasizes_but_headin
     body = (
         "<p class=bold>One</p><p class=light>two</p><p class=line>three</p><p class=up>four</p>"
         "<p class=smallcaps>five</p><p style='font: bold 1em serif'>six</p><p class=bold style='font-weight: 400'>seven"
-        "<h2 class=bold>Eight</h2><h2><p>Nine</p></h2><table><tr><th><p>ten</p><th class=bold>eleven</table>"
+        "<h2 class=bold>Eight</h2><h3 class=line>zero</h3><h2><p>Nine</p></h2><table><tr><th><p>ten</p><th class=bold>eleven</table>"
         "<p>a <span class=bold>twelve</span> <b>thirteen</b></p>"
     )
     page = f"<html><head><style>{sheet}</style></head><body>{body}</body></html>"
     found = read_document(page.encode(), ManuscriptKind.HTML)
-    emphasized = "One three four five six twelve thirteen".split()
+    emphasized = "One three four five six twelve thirteen zero".split()
     assert sorted(lost(found, LossKind.EMPHASIS)) == sorted(emphasized)
 
 

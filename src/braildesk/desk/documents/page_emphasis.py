@@ -20,6 +20,8 @@ _KNOWN = {
 #: Some small capitals that it knows: those of this element by this class, or by its own style.
 _SMALL, _SMALL_CLASS = "span", "smallcaps"
 _LINK, _PARAGRAPH = "a", "p"
+#: Headings, which are bold and the like as such, and are struck out as any words are.
+_HEADS = frozenset("h1 h2 h3 h4 h5 h6".split())
 #: What declarations say of words that are emphasized.
 _EMPHASIZED = {
     "font-style": re.compile("italic|oblique"),
@@ -182,6 +184,8 @@ def _lost(element: Emphasized) -> Iterator[tuple[LossKind, str]]:
         is_bold_head = element.is_in_head and name == "font-weight"
         is_whole = tag == _PARAGRAPH and not is_bold_head
         said = values.get(name, "").split()
+        is_any = any(map(emphasized.fullmatch, said))
         if is_whole or is_within_line and not is_usual:
-            is_any = any(map(emphasized.fullmatch, said))
             yield from [(LossKind.EMPHASIS, name)] * is_any
+        elif tag in _HEADS and "line-through" in said:
+            yield LossKind.EMPHASIS, name

@@ -54,34 +54,40 @@ _WHOLE = {
     _LINE: ("none",),
     f"{_STYLE}text-line-through-style": ("none",),
 }
+#: That of headings, which are bold and the like as such, and are struck out as any words are.
+_OF_HEADINGS = {f"{_STYLE}text-line-through-style": ("none",)}
 
 
 def emphasized(root: Element, *others: Element) -> Iterator[Loss]:
-    """The paragraphs of a text that are emphasized by its styles or those of other parts, but the words in them that are
-    plain by styles of their own.
+    """The paragraphs of a text that are emphasized by its styles or those of other parts, and the headings that are
+    struck out, but the words in them that are plain by styles of their own.
     """
     styles, words = (Styles(family, *others, root) for family in ("paragraph", "text"))
     gone = {
         id(each) for tag in _GONE for part in root.iter(tag) for each in part.iter()
     }
-    for paragraph in root.iter(f"{_TEXT}p"):
-        emphasis = styles.emphasis(paragraph.get(f"{_TEXT}style-name", ""))
-        if id(paragraph) in gone or not _is_any(emphasis, _WHOLE):
-            continue
-        yield from emphases(_texts(paragraph, emphasis, words))
+    for tag, kinds in ((f"{_TEXT}p", _WHOLE), (f"{_TEXT}h", _OF_HEADINGS)):
+        for paragraph in root.iter(tag):
+            emphasis = styles.emphasis(paragraph.get(f"{_TEXT}style-name", ""))
+            if id(paragraph) in gone or not _is_any(emphasis, kinds):
+                continue
+            yield from emphases(_texts(paragraph, emphasis, words, kinds))
 
 
 def _texts(
-    element: Element, emphasis: Mapping[str, str], words: "Styles"
+    element: Element,
+    emphasis: Mapping[str, str],
+    words: "Styles",
+    kinds: Mapping[str, Collection[str]],
 ) -> Iterator[tuple[str, bool]]:
-    """The texts of a paragraph, without those of others in it, and whether each is emphasized."""
-    is_emphasized = _is_any(emphasis, _WHOLE)
+    """The texts of a paragraph, without those of others in it, and whether each is emphasized by some kinds."""
+    is_emphasized = _is_any(emphasis, kinds)
     yield " " if element.tag in _PARTING else element.text or "", is_emphasized
     for child in element:
         if child.tag not in _INNER:
             own = words.emphasis(child.get(f"{_TEXT}style-name", ""))
             its = {**emphasis, **own} if child.tag == _SPAN and own else emphasis
-            yield from _texts(child, its, words)
+            yield from _texts(child, its, words, kinds)
         yield child.tail or "", is_emphasized
 
 
