@@ -2118,6 +2118,15 @@ def test_a_page_that_is_nested_too_deeply_is_refused_before_it_is_read(
         assert found.value.why is WhyNot.TOO_DEEP
 
 
+@pytest.mark.parametrize("front", ["<!--", "<!x", "<?x", "</x", "<p a", '<p a=">'])
+def test_words_after_a_tag_that_nothing_ends_are_said_to_be_missing(front: str) -> None:
+    page = f"<html><body><p>The moon</p>{front} is far away."
+    found = read_document(page.encode(), ManuscriptKind.HTML)
+    assert found.texts[0] == "The moon"
+    missing = " ".join(each.words for each in found.missing).split()
+    assert {"is", "far", "away"} <= {*missing, *found.texts[-1].split()}
+
+
 @pytest.mark.parametrize("front", ["<!--", "<![CDATA[", "<!x", "<?", "</", '<p a=">"'])
 def test_a_page_is_refused_in_which_nothing_ends_many_tags(front: str) -> None:
     def page(count: int) -> bytes:

@@ -53,7 +53,8 @@ _WORDLESS = frozenset("hidden checkbox radio password file color range image".sp
 class Tags(HTMLParser):
     """What finds the tags of a page, whatever their attributes have.
 
-    `NoDocument` if nothing ends many of them: each is looked for up to the end of the page.
+    One that nothing ends is text of the page up to the next end of a tag. `NoDocument` if there are many:
+    each is looked for up to the end of the page. All of the page is fed at once.
     """
 
     #: How many tags and comments of a page nothing may end.
@@ -64,19 +65,19 @@ class Tags(HTMLParser):
 
     def parse_starttag(self, i: int) -> int:
         self._front = i
-        return self._ended(super().parse_starttag(i))
+        return self._ended(i, super().parse_starttag(i))
 
     def parse_endtag(self, i: int) -> int:
-        return self._ended(super().parse_endtag(i))
+        return self._ended(i, super().parse_endtag(i))
 
     def parse_comment(self, i: int, report: int = 1) -> int:
-        return self._ended(super().parse_comment(i, bool(report)))
+        return self._ended(i, super().parse_comment(i, bool(report)))
 
     def parse_pi(self, i: int) -> int:
-        return self._ended(super().parse_pi(i))
+        return self._ended(i, super().parse_pi(i))
 
     def parse_html_declaration(self, i: int) -> int:
-        return self._ended(super().parse_html_declaration(i))
+        return self._ended(i, super().parse_html_declaration(i))
 
     def parse_marked_section(self, i: int, report: int = 1) -> int:
         # the reader of the library fails at those that it doesn't know
@@ -94,12 +95,19 @@ class Tags(HTMLParser):
         own = self.rawdata[start : stop if stop >= 0 else None]
         return "" if plain(unescape(own)) == plain(words) else words
 
-    def _ended(self, end: int) -> int:
-        """Where a tag ends, counted if that is nowhere."""
-        self._open_count += end < 0
+    def _ended(self, i: int, end: int) -> int:
+        """Where a tag ends that begins at a place; or where text ends that it is, since nothing ends it."""
+        if end >= 0:
+            return end
+        self._open_count += 1
         if self._open_count > self._MOST_OPEN:
             raise NoDocument(WhyNot.DAMAGED)
-        return end
+        # some versions of the library drop all that stands after it
+        stop = self.rawdata.find(">", i + 1) + 1 or self.rawdata.find("<", i + 1)
+        text = self.rawdata[i : stop if stop > 0 else i + 1]
+        is_plain = self.convert_charrefs and not self.cdata_elem
+        self.handle_data(unescape(text) if is_plain else text)
+        return i + len(text)
 
 
 def field_words(tag: str, attributes: Mapping[str, str | None]) -> str:

@@ -47,7 +47,7 @@ _LINE = f"{_STYLE}text-underline-style"
 #: What says of which font letters are: pandoc takes those of a typewriter for emphasized ones.
 _LETTERS = (f"{_STYLE}font-name", f"{_STYLE}font-pitch")
 #: Emphasis of whole paragraphs, with the values that are none.
-_WHOLE = {
+_WHOLE: Mapping[str, Collection[str]] = {
     **_OTHER,
     f"{_FO}font-style": (_PLAIN,),
     _WEIGHT: (_PLAIN, "100", "200", "300", "400", "500"),
@@ -55,7 +55,9 @@ _WHOLE = {
     f"{_STYLE}text-line-through-style": ("none",),
 }
 #: That of headings, which are bold and the like as such, and are struck out as any words are.
-_OF_HEADINGS = {f"{_STYLE}text-line-through-style": ("none",)}
+_OF_HEADINGS: Mapping[str, Collection[str]] = {
+    f"{_STYLE}text-line-through-style": ("none",)
+}
 
 
 def emphasized(root: Element, *others: Element) -> Iterator[Loss]:
