@@ -446,8 +446,8 @@ def _judge_name(named: str, kind: type[NotMade], what: str) -> None:
     """Whether a book may get a name: not one by which what belongs to another one is looked for."""
     if book := opening.book_beside(real_path(named)):
         raise kind(
-            f"“{named}” is the name of a file that belongs to the book “{book}”. Take another path for"
-            f" the {what}."
+            f"“{named}” is a name as a file beside a book has: “{book}” would be that book. Take another"
+            f" path for the {what}."
         )
 
 

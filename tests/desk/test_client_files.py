@@ -1175,10 +1175,12 @@ def test_a_log_of_another_that_its_folder_lets_nobody_move_is_left_to_an_adminis
         " is looked for, may be written by people who may not write the book, as after a change of"
         " its permissions. They may have put something else there, and its folder lets nobody move"
         " it away but its owner, the owner of the folder and an administrator. Nothing was changed."
-        f" If you know that the work is yours, ask an administrator to make “{log}” yours, and open"
-        " the book again. If you don't, ask for it to be moved away, and go on without it."
+        f" If you know that the work is yours, ask an administrator to make “{log}” yours, with the"
+        " mode 600, and open the book again. If you don't, ask for it to be moved away, and go on"
+        " without it."
     )
     os.chown(log, STRANGER, STRANGER)
+    log.chmod(0o600)
     assert as_stranger(lambda: Session(book).close()) == ""
     with Session(book) as session:
         assert session.print_of(1) == "of the office"
@@ -2056,7 +2058,10 @@ def test_no_book_gets_a_name_by_which_what_belongs_to_another_is_looked_for(
     book: Path, ending: str
 ) -> None:
     beside = Path(f"{book}-other{ending}")
-    said = f"“{beside}” is the name of a file that belongs to the book “{book}-other”. Take another"
+    said = (
+        f"“{beside}” is a name as a file beside a book has: “{book}-other” would be that book. Take"
+        " another"
+    )
     with pytest.raises(NotCopied) as copied:
         braildesk.copy(book, beside)
     assert copied.value.sentence == f"{said} path for the copy."
@@ -2076,9 +2081,9 @@ def test_no_book_takes_the_place_of_what_belongs_to_another_one(
         killed_after(book, "kept")
     else:
         log.touch()
-        with pytest.raises(NotMade, match="is the name of a file that belongs to"):
+        with pytest.raises(NotMade, match="is a name as a file beside a book has"):
             braildesk.new_book(log)
-    with pytest.raises(NotCopied, match="is the name of a file that belongs to"):
+    with pytest.raises(NotCopied, match="is a name as a file beside a book has"):
         braildesk.copy(other, log, overwrite=True)
     assert braildesk.check(book) == 1 + has_work
 

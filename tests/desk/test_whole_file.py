@@ -169,7 +169,8 @@ def test_a_file_of_another_person_gives_nothing_to_the_one_that_replaces_it(
     "owner, folder, may_rename",
     [
         *((STRANGER, 0o755, True), (STRANGER, 0o1777, True), (0, 0o777, True)),
-        *((0, 0o1777, False), (0, 0o2775, False), (0, 0o755, False)),
+        *((0, 0o1777, False), (0, 0o3775, False), (0, 0o755, False)),
+        (0, 0o2775, True),
     ],
 )
 def test_a_file_to_which_a_stranger_may_give_the_name_keeps_no_more_than_a_new_one_gets(
@@ -177,7 +178,7 @@ def test_a_file_to_which_a_stranger_may_give_the_name_keeps_no_more_than_a_new_o
 ) -> None:
     out = tmp_path / "out"
     out.mkdir()
-    os.chown(out, owner, 7)
+    os.chown(out, owner, STRANGER)
     out.chmod(folder)
     lead_to(tmp_path)
     public, pages = out / "public.brf", out / "pages.brf"
@@ -619,7 +620,7 @@ def test_no_command_puts_a_file_where_the_log_of_a_book_would_be(moon: Path) -> 
             assert (found.status, found.shown, found.said) == (2, "", f"{said}\n")
         for command in (("new", name), ("copy", moon.name, name)):
             found = scribe(*command, folder=moon.parent)
-            assert found.status == 2 and "belongs to the book" in found.said
+            assert found.status == 2 and " would be that book." in found.said
     assert set(os.listdir(moon.parent)) - {f"{moon.name}-wal"} == set(before)
 
 

@@ -153,7 +153,7 @@ def write_whole(
     `MayNotLast` comes after it, and so does `Swapped`, if another file has the name then. The name
     alone is replaced: a link there is gone and the file that it led to stays as it was, and a pipe
     of that name isn't opened. A file of one's own keeps its permissions to read and write, but no more
-    than a new one gets where strangers may have given it that name. Any other gets what is said here
+    than a new one gets where others may have given it that name. Any other gets what is said here
     and the umask allows. A book or a log is never replaced, nor is a name given
     by which a log is looked for. Nor, with `AnotherIsThere`, is what may not be replaced by its front,
     if that is asked, unless it is an empty file, as `mktemp` makes one.
@@ -316,7 +316,7 @@ def _write(
     name: str, folder: int, data: bytes, access: Access, kept: Kept | None
 ) -> os.stat_result:
     """Makes a file with these bytes, on the disk, and says what it is."""
-    is_own = kept is not None and not (kept.is_linked or _is_strangers(folder))
+    is_own = kept is not None and not (kept.is_linked or _is_others(folder))
     whole = kept if is_own else None
     mode = _OWN if whole is not None else _allowed(folder, access)
     with open(_made(name, folder, _OWN), "wb") as file:
@@ -330,11 +330,12 @@ def _write(
         return os.fstat(file.fileno())
 
 
-def _is_strangers(folder: int) -> bool:
-    """Whether strangers may give the name of one file in a folder to another that lies there."""
+def _is_others(folder: int) -> bool:
+    """Whether others may give the name of one file in a folder to another that lies there."""
     found = os.fstat(folder)
-    is_open = found.st_mode & (stat.S_IWOTH | stat.S_ISVTX) == stat.S_IWOTH
-    return is_open or found.st_uid not in (0, os.geteuid())
+    is_open = found.st_mode & (stat.S_IWGRP | stat.S_IWOTH) != 0
+    is_kept = found.st_mode & stat.S_ISVTX != 0
+    return is_open and not is_kept or found.st_uid not in (0, os.geteuid())
 
 
 def _made(name: str, folder: int, mode: int) -> int:

@@ -180,8 +180,8 @@ UNOPENED = MappingProxyType(
         " who may not write the book, as after a change of its permissions. They may have put"
         " something else there, and its folder lets nobody move it away but its owner, the owner of"
         " the folder and an administrator. {nothing} If you know that the work is yours, ask an"
-        " administrator to make {log} yours, and open the book again. If you don't, ask for it to be"
-        " moved away, and go on without it.",
+        " administrator to make {log} yours, with the mode 600, and open the book again. If you don't,"
+        " ask for it to be moved away, and go on without it.",
         Why.LOG_READ: "{log} may be read by people who may not read {path}, and what is kept would stand there"
         " first. It belongs to {log_owner}, and no other could be put in its place: its folder doesn't let"
         " you, or its disk has no room. {nothing} Ask {log_owner} to open the book once, by which that file"
