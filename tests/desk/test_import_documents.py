@@ -394,7 +394,8 @@ def test_characters_that_the_table_lacks_are_shown_once_each_with_what_is_lost(
             "- “and” in “To → and → back…”",
             f"moon.md, paragraph 1, Moon [→] sea: {arrow} It stands in the text 3 times.",
             f"moon.md, paragraph 2, To → and → back[…]: {dots} It stands in the text once.",
-            "scribe import --replace PAIRS puts other characters in their place.",
+            "Where nobody has the book open, scribe import --replace PAIRS puts other characters in"
+            " their place.",
             "Nothing was typed.",
         ),
     )

@@ -400,7 +400,8 @@ def _faulty(problem: Faulty) -> list[str]:
         for each in problem.faults
     ):
         sentences.append(
-            "scribe import --replace PAIRS puts other characters in their place."
+            "Where nobody has the book open, scribe import --replace PAIRS puts other characters in"
+            " their place."
         )
     sentences += _made_anew(problem)
     if problem.over:
