@@ -13,7 +13,7 @@ from braildesk.desk.draft import Aim, Draft
 from braildesk.desk.drafts import Begun, Drafts, LeftAt
 from braildesk.desk.own_folder import MOST_BYTES
 
-from scribe.screen.state import Pane
+from scribe.screen.state import Pane, Size
 from sitting import Sat, Sit
 from terminal import Open, once_free
 from tool import WAIT_SECONDS
@@ -65,6 +65,19 @@ def test_a_paragraph_that_got_shorter_is_opened_at_its_end(
         session.correct(2, 3, 6, "")
     again = sit(moon)
     assert (again.state.chosen, again.state.place) == (1, 2)
+
+
+@pytest.mark.parametrize("lines", [1, 2])
+def test_what_is_asked_where_the_book_was_left_is_in_sight_on_one_or_two_lines(
+    moon: Path, sit: Sit, lines: int
+) -> None:
+    sat = sit(moon)
+    sat.press("down")
+    left(sat)
+    Drafts(moon).save(Draft(Aim.EDIT, 2, "en", "The Tides", "The Tide"))
+    again = sit(moon, size=Size(40, lines))
+    assert (again.state.chosen, again.state.message) == (1, "")
+    assert again.lines[-1] == "A text of paragraph 2 was typed and…"
 
 
 def test_a_text_that_waits_is_offered_at_its_own_paragraph(

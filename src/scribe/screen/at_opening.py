@@ -45,6 +45,13 @@ def elsewhere(before: State, state: State) -> State:
     return state.saying(f"{state.message} ".replace(_OPENED_THERE, "").rstrip())
 
 
+def asking(state: State) -> State:
+    """The state in which what is asked isn't behind where the book is open, as on a screen of one line."""
+    if state.question is None:
+        return state
+    return state.saying(f"{state.message} ".replace(_OPENED_THERE, "").rstrip())
+
+
 def with_cut(unsent: Unsent, state: State) -> State:
     """The state with what was cut out of a text when scribe was ended, for Ctrl-Y."""
     text = unsent.cut

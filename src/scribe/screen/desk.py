@@ -74,6 +74,7 @@ from scribe.screen.actions import (
 )
 from scribe.screen.at_opening import (
     SHOWS_KEYS,
+    asking,
     elsewhere,
     reminded,
     where_left,
@@ -232,7 +233,7 @@ class Desk:
         state = with_answers(self._unsent, state)
         state = elsewhere(state, self._offered(state, self._unsent.waiting))
         state = reminded(self.drafts, self._session, state)
-        state = with_changes(self.drafts, self._session, state)
+        state = asking(with_changes(self.drafts, self._session, state))
         back = taken_back_in_part(self.drafts, state.version)
         state = saying_first(led(self.path), state.saying_too(back))
         return refreshed(self._session, state)
