@@ -3,6 +3,7 @@
 import re
 import shutil
 import signal
+import stat
 import subprocess
 import sys
 from argparse import Namespace
@@ -695,6 +696,18 @@ def test_a_table_for_a_text_is_replaced_as_it_was_written_and_not_once_it_was_ch
     said = "out.utb is there already and is no table as scribe bring wrote it, so it was left"
     assert ran.status == 2 and said in " ".join(ran.said.split())
     assert table.read_text() == changed
+
+
+@pytest.mark.parametrize("mode", [0o600, 0o640, 0o644])
+def test_a_table_for_a_text_is_for_those_who_may_read_the_text(
+    tmp_path: Path, mode: int
+) -> None:
+    inputs(tmp_path)
+    (tmp_path / "text.txt").chmod(mode)
+    words = ("bring", "small.utb", "out.utb", "--for", "text.txt", "--words", "words")
+    cache = str(tmp_path / "cache")
+    assert scribe(*words, folder=tmp_path, XDG_CACHE_HOME=cache).status == 0
+    assert stat.S_IMODE((tmp_path / "out.utb").stat().st_mode) == mode
 
 
 def test_a_table_is_made_for_the_paragraphs_of_a_book_that_stand(

@@ -6,7 +6,12 @@ from pathlib import Path
 from braildesk.desk.contracted import means_for
 from braildesk.desk.manuscript import UnreadableText
 from braildesk.desk.manuscripts import read_manuscript
-from braildesk.desk.whole_file import AnotherIsThere, judge_place, write_whole
+from braildesk.desk.whole_file import (
+    Access,
+    AnotherIsThere,
+    judge_place,
+    write_whole,
+)
 from braildesk.named_files import is_same_file
 from braildesk.tables.convert import manuscript_report, report
 from braildesk.tables.convert.addition import BadAddition
@@ -290,13 +295,15 @@ def _why_not(brought: Converted) -> str:
 
 
 def _written(text: str, arguments: Namespace, console: Console) -> Status:
-    file = arguments.file
+    file, manuscript = arguments.file, arguments.manuscript
     replaces = None if arguments.overwrite else report.is_brought
     if file is None:
         console.pass_on(*text.removesuffix("\n").split("\n"))
         return Status.DONE
     try:
-        write_whole(file, text.encode(), replaces=replaces)
+        # it names words of a manuscript for which it is made
+        access = Access() if manuscript is None else Access.of(manuscript)
+        write_whole(file, text.encode(), access, replaces)
     except AnotherIsThere as taken:
         raise _not_replaced(file, taken) from taken
     except MayNotLast as error:
