@@ -104,6 +104,8 @@ def test_what_stands_after_the_caret_stays_after_pasted_paragraphs(
     "place, text, wanted",
     [
         (4, "One.\nTwo. ", ("Two. Moon", len("Two. "))),
+        (3, "One.\nTwo.", ("Two. Moon", len("Two."))),
+        (3, "One.\nTwo.\n", ("Moon", 0)),
         (4, "One.\nTwo.\n", ("Moon", 0)),
         (0, "One.\nTwo.\n", ("Two.", len("Two."))),
         (8, "\nrose.\nTwo.\n", ("Two.", len("Two."))),

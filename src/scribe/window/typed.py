@@ -357,7 +357,7 @@ class Typed:
         if answer == 0:
             if is_before:
                 desk.begin_new(New(Aim.BEFORE, desk.number, desk.table_of_new()))
-            self.typed_lines(paragraphs, "" if is_before else composed(back.lstrip()))
+            self.typed_lines(paragraphs, "" if is_before else _behind(lines, back))
             return
         joined = " ".join(lines)
         count = len(front) + len(joined) + len(back)
@@ -558,6 +558,11 @@ def _between(front: str, lines: Sequence[str], back: str) -> list[str]:
     first, *others, last = lines
     rest = last + back if last and back else last.rstrip() or back.lstrip()
     return [front + first, *others, *([rest] if rest.strip() else [])]
+
+
+def _behind(lines: Sequence[str], back: str) -> str:
+    """What stands after pasted lines, without its first blanks where the last line is ended."""
+    return composed(back if lines[-1] else back.lstrip())
 
 
 def _typed_after(
