@@ -7,8 +7,9 @@ from pathlib import Path
 
 import pytest
 from PyQt6.QtGui import QFont
+from PyQt6.QtWidgets import QApplication
 
-from braildesk import Style, requests
+from braildesk import Style, new_book, requests
 from braildesk.desk.change_note import Became, ChangeNote, NotedPlace
 from braildesk.desk.drafts import Drafts
 from braildesk.desk.layout import PageSize
@@ -635,6 +636,16 @@ def test_the_font_of_the_braille_is_chosen_and_remembered(
     its = again.window.cells.font()
     assert (its.family(), its.pointSize()) == ("DejaVu Sans", 31)
     again.close()
+
+
+def test_the_print_of_a_book_without_paragraphs_has_its_name_over_it(
+    application: QApplication, tmp_path: Path
+) -> None:
+    new_book(book := tmp_path / "empty.braildesk")
+    desk = Desk(book, None, 0.0, PageSize())
+    desk.begin()
+    assert desk.window.print_label.text() == "Print"
+    desk.close()
 
 
 def test_a_table_is_given_and_taken_back(desk: Desk, given: Answers) -> None:

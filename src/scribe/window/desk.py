@@ -600,7 +600,7 @@ class Desk:
         """Shows the paragraph as it is in the book."""
         reading, window = self.reading, self.window
         window.print.setReadOnly(reading is None or reading.its.paragraph.struck)
-        head = "&Print"
+        head = "Print"
         if reading is None:
             self.say(NO_PARAGRAPH)
         else:
