@@ -662,6 +662,36 @@ def test_what_is_typed_after_lines_that_a_book_which_is_gone_lacks_is_kept_besid
         assert [each.text for each in drafts.given_up()] == [lines]
 
 
+@pytest.mark.parametrize("is_saved", [True, False])
+def test_of_a_book_of_which_the_file_is_gone_it_is_said_where_it_is_until_that_is_back(
+    shelved: Desk, is_saved: bool
+) -> None:
+    desk, message = shelved, shelved.window.message
+    other = desk.path.with_name("other.braildesk")
+    saved = desk.path.with_name(f"{desk.path.name}-saved-1")
+    if not is_saved:
+        os.kill(desk.book.pid, signal.SIGKILL)
+    desk.path.rename(other)
+    desk.act("strike")
+    assert desk.is_closed and saved.exists() == is_saved
+    gone = f"The book is closed: Its file isn't at “{desk.path}” any more."
+    opens = "Open the book again, in the menu Book, opens it"
+    if is_saved:
+        gone += f" All of the book is in “{saved}”, which scribe window opens."
+    else:
+        gone += f" {opens} once it is there again."
+    for name in ("strike", "open_again"):
+        desk.say("")
+        desk.act(name)
+        assert message.text == gone, name
+    other.rename(desk.path)
+    desk.act("strike")
+    assert message.text == f"The book is closed: {opens}."
+    desk.act("open_again")
+    assert not desk.is_closed
+    assert message.text.startswith("The book is open again, at version ")
+
+
 def test_letters_that_are_taken_away_again_wait_nowhere_for_a_book_that_is_gone(
     shelved: Desk, stays: list[str]
 ) -> None:

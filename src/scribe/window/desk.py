@@ -45,6 +45,7 @@ from scribe.window.book import (
     OpenBook,
     Opening,
     ChosenParagraph,
+    is_gone,
 )
 from scribe.window.dialogs import IsStopped, Say, ask, offer
 from scribe.window.fields import LINE_END
@@ -75,6 +76,9 @@ Result = TypeVar("Result")
 NO_PARAGRAPH = "The book has no paragraph yet. Ctrl+Enter begins one."
 STRUCK = "is struck. Ctrl+D restores it, so that it can be changed."
 CLOSED = "The book is closed: Open the book again, in the menu Book, opens it."
+_GONE = "The book is closed: Its file isn't at “{path}” any more. {then}"
+_THEN = "Open the book again, in the menu Book, opens it once it is there again."
+_SAVED = "All of the book is in “{saved}”, which scribe window opens."
 _NOT_SHOWN = "has a character that a window can't show. scribe edit changes it."
 _ONLY_HERE = (
     "What is typed can't be kept elsewhere: it is lost if the window is closed."
@@ -345,13 +349,13 @@ class Desk:
     def asked(self, act: Callable[[], Result]) -> Result:
         """What comes of something in the thread of the session."""
         if self.is_closed:
-            raise Stop(CLOSED)
+            raise Stop(self.closed)
         return self.work.result(act)
 
     def long(self, title: str, act: Callable[[Say, IsStopped], Result]) -> Result:
         """The same of something that takes long, with its progress shown, and a button that ends it."""
         if self.is_closed:
-            raise Stop(CLOSED)
+            raise Stop(self.closed)
 
         def typed(text: str) -> None:
             draft = self._of_new(text)
@@ -463,9 +467,20 @@ class Desk:
     def _why_not_typed(self) -> str:
         """Why nothing can be typed in the print."""
         if self.reading is None:
-            return CLOSED if self.is_closed else NO_PARAGRAPH
+            return self.closed if self.is_closed else NO_PARAGRAPH
         its = self.reading.its.paragraph
         return f"Paragraph {its.id} {STRUCK if its.struck else _NOT_SHOWN}"
+
+    @property
+    def closed(self) -> str:
+        """What is said where the book isn't open any more, also where its file is gone."""
+        saved = self._saved
+        look = lambda: (is_gone(self.path), saved is not None and not is_gone(saved))
+        is_away, is_saved = self.work.result(look)
+        if not is_away:
+            return CLOSED
+        then = _SAVED.format(saved=saved) if is_saved else _THEN
+        return _GONE.format(path=self.path, then=then)
 
     # what is chosen and shown
 
@@ -660,7 +675,7 @@ class Desk:
 
         def act() -> None:
             if self.is_closed:
-                raise Stop(CLOSED)
+                raise Stop(self.closed)
             if not self.settle():
                 QTimer.singleShot(0, self._choose_again)
                 return

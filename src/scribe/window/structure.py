@@ -8,7 +8,7 @@ from braildesk.desk.tables import SUPPLIED, table_names
 
 from scribe.window import dialogs
 from scribe.window.book import Done, NotAll
-from scribe.window.desk import CLOSED, STRUCK, Desk, New
+from scribe.window.desk import STRUCK, Desk, New
 from scribe.window.dialogs import IsStopped, Say
 from scribe.words.changes import not_given, nothing_found, paragraph_history
 from scribe.words.status import Stop
@@ -85,7 +85,7 @@ class Structure:
         """Gives a paragraph a table, which takes a while if it is in many paragraphs already."""
         desk = self.desk
         if desk.is_closed:
-            raise Stop(CLOSED)
+            raise Stop(desk.closed)
 
         def act(say: Say, is_stopped: IsStopped) -> Done:
             def go_on(step: str) -> bool:

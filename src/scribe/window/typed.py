@@ -21,7 +21,7 @@ from braildesk.text.spans import Span
 
 from scribe.window import dialogs
 from scribe.window.book import Done, NotAll, NothingToTakeBack, ChosenParagraph
-from scribe.window.desk import CLOSED, Desk, New
+from scribe.window.desk import Desk, New
 from scribe.window.dialogs import IsStopped, Say
 from scribe.window.fields import MOST_OF_LINES, MOST_OF_ONE
 from scribe.words.deeds import Deed
@@ -267,7 +267,7 @@ class Typed:
         """Asks what lines are that wait or were given up, which wait until that is answered."""
         desk, joined = self.desk, " ".join(lines)
         if desk.is_closed:
-            raise Stop(f"{CLOSED} {desk.put_by(draft)}")
+            raise Stop(f"{desk.closed} {desk.put_by(draft)}")
         asked = f"What was typed has {len(lines):,} lines. Are they paragraphs?"
         if new is None:
             asked += f" The first goes on in paragraph {desk.number}."
@@ -406,7 +406,7 @@ class Typed:
         whole = self._draft_of(lines)
         if desk.is_closed:
             # what is typed on in the print has to wait by itself
-            said = f"{CLOSED} {what_for(whole)} isn't in the book. {desk.put_by(whole)}"
+            said = f"{desk.closed} {what_for(whole)} isn't in the book. {desk.put_by(whole)}"
             desk.keep_draft(desk.draft())
             raise Stop(said)
         self._wait(whole)

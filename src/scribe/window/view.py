@@ -6,7 +6,7 @@ from braildesk.text.cells import braille_ascii
 
 from scribe.window import dialogs
 from scribe.window.book import LEFT
-from scribe.window.desk import NO_PARAGRAPH, Desk
+from scribe.window.desk import CLOSED, NO_PARAGRAPH, Desk
 from scribe.window.menus import key_lines
 from scribe.words.pages import NoSize, described, typed_page_size
 from scribe.words.paragraph import counted
@@ -135,6 +135,8 @@ class View:
         if not desk.is_closed:
             desk.say("The book is open.")
             return
+        if (closed := desk.closed) != CLOSED:
+            raise Stop(closed)
         deeds = desk.book.deeds
         more = desk.taken_again(desk.work.result(desk.book.opened_again))
         left = LEFT if deeds and not desk.book.deeds else ""
