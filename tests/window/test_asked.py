@@ -2,6 +2,7 @@
 
 from collections.abc import Callable
 from pathlib import Path
+from types import SimpleNamespace
 from typing import Any
 
 import pytest
@@ -209,6 +210,80 @@ def test_a_space_that_comes_before_a_question_could_be_read_begins_a_text(
     answers = ("Change &all", "Ask at each &place", "&Cancel")
     assert dialogs.ask(over, "Change", "So?", answers, typed.append) == 2
     assert typed[-1] == "und hier"
+
+
+@pytest.mark.parametrize("text", [" ma no", "  ma no", " Ma no"])
+def test_a_text_that_begins_with_a_blank_presses_no_button_and_is_set_aside(
+    application: QApplication, monkeypatch: pytest.MonkeyPatch, text: str
+) -> None:
+    clock = [0.0]
+    monkeypatch.setattr(dialogs, "time", SimpleNamespace(monotonic=lambda: clock[0]))
+    monkeypatch.setattr(dialogs, "_READING_SECONDS", 3600.0)
+    over, typed, focused = QWidget(), list[str](), list[str]()
+
+    def type_on(button: QPushButton, box: QMessageBox) -> None:
+        clock[0] = 3600.0
+        for letter in text:
+            if box.isVisible():
+                _HANDS.keyClicks(box.focusWidget(), letter)
+        if box.isVisible():
+            _HANDS.keyClick(box.focusWidget(), Qt.Key.Key_Return)
+            focused.extend(each.text() for each in box.buttons() if each.hasFocus())
+            box.close()
+
+    _at_question(type_on)
+    answers = ("Change &all", "Ask at each &place", "&Cancel")
+    assert dialogs.ask(over, "Change", "So?", answers, typed.append) == 2
+    assert (typed[-1:], focused) == ([text.strip()], ["&Cancel"])
+
+
+@pytest.mark.parametrize("keys", [[], [Qt.Key.Key_Control], [Qt.Key.Key_Space]])
+def test_a_space_after_which_no_letter_comes_presses_the_button_a_moment_later(
+    application: QApplication,
+    monkeypatch: pytest.MonkeyPatch,
+    keys: list[Qt.Key],
+) -> None:
+    clock = [0.0]
+    monkeypatch.setattr(dialogs, "time", SimpleNamespace(monotonic=lambda: clock[0]))
+    monkeypatch.setattr(dialogs, "_READING_SECONDS", 0.01)
+    over, seen = QWidget(), list[bool]()
+
+    def press(button: QPushButton, box: QMessageBox) -> None:
+        clock[0] = 1.0
+        for key in (Qt.Key.Key_Space, *keys):
+            _HANDS.keyClick(button, key)
+        seen.append(box.isVisible())
+
+    _at_question(press)
+    answers = ("Change &all", "Ask at each &place", "&Cancel")
+    given = dialogs.ask(over, "Change", "So?", answers, lambda text: None)
+    assert (given, seen) == (0, [True])
+
+
+@pytest.mark.parametrize(
+    "key, answer",
+    [(Qt.Key.Key_Tab, 2), (Qt.Key.Key_Return, 0), (Qt.Key.Key_Backspace, 2)],
+)
+def test_a_space_is_held_no_longer_once_another_key_is_pressed(
+    application: QApplication,
+    monkeypatch: pytest.MonkeyPatch,
+    key: Qt.Key,
+    answer: int,
+) -> None:
+    clock = [0.0]
+    monkeypatch.setattr(dialogs, "time", SimpleNamespace(monotonic=lambda: clock[0]))
+    monkeypatch.setattr(dialogs, "_READING_SECONDS", 0.001)
+    over = QWidget()
+
+    def press(button: QPushButton, box: QMessageBox) -> None:
+        clock[0] = 1.0
+        for each in (Qt.Key.Key_Space, key):
+            _HANDS.keyClick(button, each)
+        QTimer.singleShot(30, box.reject)
+
+    _at_question(press)
+    answers = ("Change &all", "Ask at each &place", "&Cancel")
+    assert dialogs.ask(over, "Change", "So?", answers, lambda text: None) == answer
 
 
 def _of_lines(window: Reader) -> None:

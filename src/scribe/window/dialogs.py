@@ -46,7 +46,8 @@ Part = TypeVar("Part", bound=QWidget)
 #: Says how far something is that takes long; and whether it is to end.
 Say = Callable[[str], None]
 IsStopped = Callable[[], bool]
-# for so long a question stands before Space alone, which may come from a text, is an answer to it
+# for so long a question stands before Space alone, which may come from a text, is an answer to it, and
+# for so long no letter comes after it then
 _READING_SECONDS = 0.3
 # keys that go from one button to another, of which the last are those of a text too
 _TABS = (Qt.Key.Key_Tab, Qt.Key.Key_Backtab)
@@ -242,7 +243,10 @@ def ask(
     answers: Sequence[str],
     typed: Callable[[str], None],
 ) -> int:
-    """Asks what a key has asked for: the same, but Space alone answers once that could be read."""
+    """Asks what a key has asked for: the same, but Space alone answers once that could be read.
+
+    It is the first of a text if a letter comes soon after it.
+    """
     with _Blind(typed, _READING_SECONDS).taking():
         return choice(over, title, sentence, answers)
 
@@ -260,6 +264,11 @@ class _Blind(QObject):
         self._reading, self._read_at = reading, math.inf
         # Enter and Space press a button that was gone to
         self._is_gone_to = self._is_said = False
+        # the button that Space presses, unless a letter comes soon after it
+        self._pressed: QPushButton | None = None
+        self._held = QTimer(self)
+        self._held.setSingleShot(True)
+        self._held.timeout.connect(self._press)
 
     @contextmanager
     def taking(self) -> Iterator[None]:
@@ -271,6 +280,7 @@ class _Blind(QObject):
             yield
         finally:
             application.removeEventFilter(self)
+            self._held.stop()
 
     @property
     def _is_text(self) -> bool:
@@ -283,6 +293,8 @@ class _Blind(QObject):
             return False
         if event is not None and event.type() == QEvent.Type.Show:
             self._read_at = time.monotonic() + self._reading
+        if self._is_held(to, event):
+            return True
         text = self._after(event)
         if text is None:
             return False
@@ -293,6 +305,26 @@ class _Blind(QObject):
         if text.endswith("\n") or not text.strip() and is_typed:
             self._say(to)
         return True
+
+    def _is_held(self, to: QObject, event: QEvent | None) -> bool:
+        """Whether Space, which may begin a text, is held; what is pressed after it ends that."""
+        if not isinstance(event, QKeyEvent) or event.type() != QEvent.Type.KeyPress:
+            return False
+        is_space = is_letter(event) and event.text() == " " and self._is_answer
+        if is_space and not self._is_gone_to and self._reading:
+            if isinstance(to, QPushButton) and not self._held.isActive():
+                self._pressed = to
+                self._held.start(math.ceil(self._reading * 1000))
+            return self._held.isActive()
+        if event.text() or event.key() in (*_TABS, *_ARROWS):
+            # not by a key that is held for another one, or has a screen reader be silent
+            self._held.stop()
+        return False
+
+    def _press(self) -> None:
+        """Presses the button for which Space was meant."""
+        if self._pressed is not None and not self._text.strip():
+            self._pressed.click()
 
     def _after(self, event: QEvent | None) -> str | None:
         """The text after what came; none where that is for the buttons."""
