@@ -479,6 +479,21 @@ def test_a_command_that_is_no_answer_gives_up_the_question(talk: Prompted) -> No
     assert talk.type("list of")[0] == "Paragraph 1: The [list of] is far away."
 
 
+def test_a_command_at_a_short_question_is_told_no_way_out_of_what_is_given_up(
+    talk: Prompted,
+) -> None:
+    talk.type("short")
+    talk.type("change", "paragraph: ")
+    assert talk.type("three", "paragraph: ") == [
+        "'three' is not a number. An empty line",
+        "gives up.",
+    ]
+    assert talk.type("next") == [
+        "'next' is not a number.",
+        "Given up. Nothing was changed.",
+    ]
+
+
 def test_a_table_is_put_into_the_book_from_a_file(talk: Prompted, moon: Path) -> None:
     assert talk.type(f"table own {moon.with_name('plain.utb')}") == [
         "Table own is in the book. No paragraph",

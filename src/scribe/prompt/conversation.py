@@ -92,11 +92,13 @@ class Conversation:
                 return found
             except InvalidInput as fault:
                 self._bring_back(self.typed.pop())
+                # somebody who types a command has forgotten the question
+                is_command = answer.split(" ")[0] in self.commands
                 # a short question doesn't say it
-                way_out = " An empty line gives up." if self.is_short else ""
+                has_way_out = self.is_short and not is_command
+                way_out = " An empty line gives up." if has_way_out else ""
                 self.console.say(sentence(str(fault)) + way_out)
-                if answer.split(" ")[0] in self.commands:
-                    # somebody who types a command has forgotten the question
+                if is_command:
                     raise NoAnswer from fault
 
     def _answer(self, question: str, short: str) -> bytes:
