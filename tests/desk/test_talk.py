@@ -594,6 +594,16 @@ def test_a_long_line_that_is_pasted_is_kept_whole(talk: Prompted, moon: Path) ->
         assert session.print_of(4) == "’" * 4_000
 
 
+def test_each_line_of_a_paste_whose_ends_the_terminal_tells_is_answered(
+    talk: Prompted,
+) -> None:
+    pasted = talk.type('\x1b[200~mark 1 "far" "a note"\nrequest marks 1\x1b[201~')
+    assert pasted[0] == "Mark 2, open, on “far”: a note"
+    assert pasted[-1] == "The book is at version 8."
+    assert talk.wait()[-1] == "Mark 2, open, on “far”: a note"
+    assert talk.type("\x1b[200~strike 2\x1b[201~")[-1] == "The book is at version 9."
+
+
 def test_no_line_of_a_paste_is_cut(talk: Prompted) -> None:
     line = "type end en " + "a" * (PASTED_BYTES - 12)
     talk.paste(f"strike 1\r{line}\rstrike 2\r{line}\rversion\r")

@@ -25,6 +25,9 @@ _TICK = 0.5
 _SETTINGS = (
     # pasted lines are lines of their own, and nothing is written that isn't text
     "set enable-bracketed-paste off",
+    # so they are where a terminal says of its own where they begin and end
+    r'"\e[200~": ""',
+    r'"\e[201~": ""',
     "set enable-meta-key off",
     "set input-meta on",
     "set output-meta on",
