@@ -220,6 +220,11 @@ def test_a_blank_at_the_end_or_the_front_of_a_line_is_taken(talk: Prompted) -> N
     talk.type("change", ": ")
     assert talk.type("3 ", ": ")[0] == "Paragraph 3: Twice a day the sea comes…"
     talk.type("")
+    assert talk.type("\t") == []
+    assert talk.type("\thelp quit\t")[0] == "quit, q or exit ends the conversation."
+    assert talk.type(" \trestore 2\t ")[-1] == "The book is at version 9."
+    assert talk.type("version\t") == ["The book is at version 9."]
+    assert talk.type("\tfind sea\t")[-1] == "Found “sea” once."
     # the text of a request is taken with its blanks
     talk.type("correct 1 8 0  ")
     assert talk.type("request history 1")[-1] == "2: “ ” put in after character 8"
@@ -275,6 +280,10 @@ def test_words_that_are_refused_say_how_the_line_is_typed(
         ("1 far ''", ["1", "far", ""]),
         (r'"she said \"no\"" it\'s a\ b', ['she said "no"', "it's", "a b"]),
         (r"'a\b' c\\d", [r"a\b", r"c\d"]),
+        (r'C:\temp\x "C:\dir"', [r"C:\temp\x", r"C:\dir"]),
+        (r'"a\\b\"" a\"b a\ b\ ' + "\\", [r'a\b"', 'a"b', "a b " + "\\"]),
+        ('"a\\ b" a\\', ["a b", "a\\"]),
+        ("\t1 far\t", ["1", "far"]),
         ("“far away”", ["“far", "away”"]),
         ("5 o'clock\tsharp", ["5", "o'clock\tsharp"]),
     ],

@@ -184,9 +184,9 @@ def _head(line: bytes) -> Request[Any] | TableHead:
     try:
         return read_head(line)
     except NotARequest:
-        if line == line.rstrip(b" "):
+        if line == line.rstrip(b" \t"):
             raise
-        return read_head(line.rstrip(b" "))
+        return read_head(line.rstrip(b" \t"))
 
 
 def _answer(conversation: Conversation, request: Request[Any]) -> None:

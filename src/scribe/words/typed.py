@@ -19,7 +19,8 @@ _WORD = re.compile(
     r"""\ *(?:'([^']*)'(?=\ |$)|"((?:[^"\\]|\\.)*)"(?=\ |$)|((?:[^\ \\]|\\.|\\$)+))""",
     re.DOTALL,
 )
-_ESCAPED = re.compile(r"\\(.)", re.DOTALL)
+# what a backslash isn't kept before
+_ESCAPED = re.compile(r"""\\([\ \t'"\\])""")
 _NUMERIC = re.compile(r"[-+]?\d[\d.,]*")
 _RANGE = re.compile(r"([0-9]+)?(?:(-)([0-9]+)?)?")
 #: The digits of a number in the requests of a book at most.
@@ -131,12 +132,14 @@ def _in_order(ranges: Iterator[_Ends]) -> Iterator[_Ends]:
 def words_of(line: str) -> list[str]:
     """The words of a line as a shell parts them, but that an apostrophe within a word is one.
 
-    A word that begins with a quotation mark goes on to the next one. A backslash takes the next
-    character as it is, but not between single marks. A hyphen at the front of what stands between
-    marks, or after a backslash, makes a word a ``QuotedHyphen``.
+    A word that begins with a quotation mark goes on to the next one. A backslash takes a quotation
+    mark, a blank or a backslash as it is, or a hyphen at the front of a word without marks, and is
+    kept before all else and between single marks. A hyphen at the front of what stands between
+    marks, or after a backslash, makes a word a ``QuotedHyphen``. Tabs at the front and at the end are
+    passed over as blanks are.
     """
     found: list[str] = []
-    place = 0
+    line, place = _without_ends(line), 0
     while match := _WORD.match(line, place):
         place = match.end()
         single, double, bare = match.groups()
@@ -145,9 +148,19 @@ def words_of(line: str) -> list[str]:
                 f"The quotation mark {bare[0]} is opened and not closed."
             )
         word = _ESCAPED.sub(r"\1", double or bare or "") if single is None else single
+        if bare is not None and bare.startswith("\\-"):
+            word = word[1:]
         is_bare = bare is not None and bare[0] == "-"
         found.append(QuotedHyphen(word) if word[:1] == "-" and not is_bare else word)
     return found
+
+
+def _without_ends(line: str) -> str:
+    """A line without the blanks and the tabs around it, but for one that a backslash takes."""
+    line = line.lstrip(" \t")
+    words = line.rstrip(" \t")
+    backslashes = len(words) - len(words.rstrip("\\"))
+    return line[: len(words) + backslashes % 2]
 
 
 def path_word(path: Path | str) -> str:

@@ -39,6 +39,7 @@ PROMPT = "> "
 USUAL_WIDTH = 80
 _ENDS = ("quit", "q", "exit")
 _GIVEN_UP = "Given up. Nothing was changed."
+_BLANKS = b" \t"
 
 
 def add_parser(subparsers: Subparsers) -> ArgumentParser:
@@ -152,8 +153,9 @@ def _talk(conversation: Conversation, file: Path, broken_off: BrokenOff) -> Lost
 
 def _answer(conversation: Conversation, file: Path, line: bytes) -> None:
     """Answers one line: help, a command of the shell, or a request."""
-    line = line.lstrip(b" ")
+    line = line.lstrip(_BLANKS)
     name, _, rest = line.decode("utf-8", "surrogateescape").partition(" ")
+    name = name if rest.strip() else name.rstrip("\t")
     if not name:
         return
     if name == "help":
@@ -169,7 +171,7 @@ def _answer(conversation: Conversation, file: Path, line: bytes) -> None:
     elif name in _ENDS:
         conversation.console.say(f"{name} takes no words. Type {name} alone to end.")
     elif name == "request":
-        request_line(conversation, line.removeprefix(b"request").lstrip(b" "))
+        request_line(conversation, line.removeprefix(b"request").lstrip(_BLANKS))
     elif name in BY_NAME or name.startswith("@"):
         request_line(conversation, line)
     else:
