@@ -98,6 +98,17 @@ def test_up_puts_back_what_it_took_the_place_of(moon: Path, sit: Sit) -> None:
     assert sat.state.typed == Field(Purpose.WORDS, "tide", 4)
 
 
+def test_up_does_not_say_that_nothing_else_was_typed_where_an_older_one_was(
+    moon: Path, sit: Sit
+) -> None:
+    sat = sit(moon)
+    sat.press("/", *"sea", "enter", "/", *"tide", "enter", "/", "up")
+    assert sat.state.typed == Field(Purpose.WORDS, "tide", 4)
+    sat.press("up")
+    assert sat.state.typed == Field(Purpose.WORDS, "tide", 4)
+    assert sat.state.message == "No older one is kept."
+
+
 @pytest.mark.parametrize("keys, purpose", [("/", Purpose.WORDS), ("c", Purpose.OLD)])
 def test_what_is_typed_as_an_answer_outlives_a_session_that_ends_meanwhile(
     moon: Path, sit: Sit, keys: str, purpose: Purpose

@@ -121,8 +121,10 @@ def about_length(state: State, typed: Field) -> Question | None:
 def _brought_back(state: State, typed: Field) -> State:
     """The state with what was typed for this before, in whose place what is typed now comes."""
     text = state.answers.get(typed.purpose, "")
-    if text in ("", typed.text):
+    if not text:
         return state.saying("Nothing else was typed for this before.")
+    if text == typed.text:
+        return state.saying("No older one is kept.")
     field = replace(typed, text=text, place=len(text))
     answers = {**state.answers, typed.purpose: typed.text or text}
     return replace(state, answers=answers, typed=field)
