@@ -252,8 +252,9 @@ def test_a_text_that_is_left_for_later_waits_through_other_work(
     sat.state = sat.desk.save_draft(sat.state)
     waiting = sat.desk.drafts.waiting()
     assert waiting and waiting.text == "It set."
-    # whatever stops the machine now, the text is there
-    assert [each.text for each in sat.desk.drafts.given_up()] == ["The Tide"]
+    # whatever stops the machine now, the text is there, and is none of the ten that are given up
+    assert [each.text for each in sat.desk.drafts.later()] == ["The Tide"]
+    assert sat.desk.drafts.given_up() == ()
     sat.press("enter", "escape", "q")
     sat.desk.close()
     again = sit(moon)
@@ -295,6 +296,51 @@ def test_a_text_that_is_left_for_later_is_asked_about_after_a_later_one_that_was
     third.press("n")
     third.state = third.desk.save_draft(third.state)
     assert Drafts(moon).waiting() is None and not Drafts(moon).later()
+
+
+def test_the_last_ten_given_up_are_kept_beside_one_that_is_left_for_later(
+    moon: Path, sit: Sit
+) -> None:
+    Drafts(moon).save(Draft(Aim.EDIT, 2, "en", "The Tides", "The Tide"))
+    sat = sit(moon)
+    sat.press("l")
+    for number in range(10):
+        sat.press("o", *f"It rose {number}.")
+        sat.state = sat.desk.save_draft(sat.state)
+        sat.press("escape")
+        sat.state = sat.desk.save_draft(sat.state)
+    kept = [each.text for each in Drafts(moon).given_up()]
+    assert kept == [f"It rose {number}." for number in reversed(range(10))]
+    waiting = Drafts(moon).waiting()
+    assert waiting and waiting.text == "The Tide"
+
+
+@pytest.mark.parametrize("keys", ["n", "l", "l U U y escape", "y escape", "y enter"])
+def test_a_text_that_was_left_for_later_is_kept_at_each_moment_until_it_waits_again(
+    moon: Path, sit: Sit, monkeypatch: pytest.MonkeyPatch, keys: str
+) -> None:
+    Drafts(moon).keep_later([Draft(Aim.EDIT, 2, "en", "The Tides", "The Tide")])
+    Drafts(moon).save(Draft(Aim.AFTER, 1, "en", "", "It rose."))
+    sat = sit(moon)
+    moments: list[list[str]] = []
+
+    def after(act: str) -> None:
+        does = getattr(OwnFolder, act)
+
+        def noted(*words: object) -> None:
+            does(*words)
+            its = Drafts(moon)
+            there = (*its.later(), *its.given_up(), *filter(None, [its.waiting()]))
+            moments.append([each.text for each in there])
+
+        monkeypatch.setattr(OwnFolder, act, noted)
+
+    after("write")
+    after("remove")
+    for key in (*keys.split(), "o", *"It set.", "escape"):
+        sat.press(key)
+        sat.state = sat.desk.save_draft(sat.state)
+    assert len(moments) > 3 and all("The Tide" in each for each in moments)
 
 
 def test_a_text_that_was_left_for_later_can_be_given_up_when_it_is_asked_about_again(

@@ -400,7 +400,8 @@ def test_a_text_that_waits_is_offered_also_where_one_beside_the_book_is_none(
     assert said.startswith("The text waits for the next opening.")
     assert f"{beside} isn't taken as a text that waits for the book" in said
     _type(desk, "So: ")
-    assert _kept(desk) == ([EDIT.text], "So: The Moon")
+    assert _kept(desk) == ([], "So: The Moon")
+    assert Drafts(desk.path).later() == (EDIT,)
     desk.act("give_up")
 
 
@@ -414,7 +415,8 @@ def test_a_text_that_waits_is_not_lost_where_the_session_ends_before_it_is_offer
     assert _kept(desk) == ([], EDIT.text)
     # another text is kept besides, and Ctrl+B has it before the next opening
     _type(desk, "So: ")
-    assert _kept(desk) == ([EDIT.text], "So: The Moon")
+    assert _kept(desk) == ([], "So: The Moon")
+    assert Drafts(desk.path).later() == (replace(EDIT, version=3),)
     desk.act("give_up")
     assert [each.text for each in desk.unsent.texts()] == [EDIT.text, "So: The Moon"]
 

@@ -1,6 +1,6 @@
 """What a person began and the book doesn't have yet, in words, what becomes of it, and why it isn't kept."""
 
-from collections.abc import Callable, Sequence
+from collections.abc import Callable, Iterable, Sequence
 from contextlib import suppress
 from dataclasses import replace
 from pathlib import Path
@@ -248,25 +248,29 @@ class Unsent:
         """Has what is typed wait, or what was left for later, or nothing; may raise `NotKept`."""
         wanted = typed or next(iter(self._later), None)
         self._keep_here()
-        self._keep_later(wanted)
-        if wanted == self.waiting:
-            return
+        if wanted != self.waiting:
+            self._have_wait(wanted)
+        # after that: one that waits by now is among them until it does
+        self._keep_later(each for each in self._later if each != wanted)
+
+    def _have_wait(self, wanted: Draft | None) -> None:
+        """Has a text wait in place of the one that did, or none; may raise `NotKept`."""
+        before = self.waiting
         if wanted is None:
-            if self.waiting in self._here:
+            if before in self._here:
                 # what couldn't be kept elsewhere waits on
                 return
             self._drafts.clear()
         else:
-            if self.waiting is not None and self.waiting in self._later:
+            if before in self._later and before not in self._put_off:
                 # it is found there if the machine stops before it waits again
-                older = self._drafts.put_by(self.waiting)
-                self._older = (*older, *self._older)
+                self._keep_later([before, *self._put_off])
             self._drafts.save(wanted)
         self.waiting, self.typed_at = wanted, None
 
-    def _keep_later(self, waiting: Draft | None) -> None:
+    def _keep_later(self, texts: Iterable[Draft]) -> None:
         """Keeps the texts that were left for later and don't wait; may raise `NotKept`."""
-        put_off = tuple(each for each in self._later if each != waiting)
+        put_off = tuple(texts)
         if put_off != self._put_off:
             self._drafts.keep_later(put_off)
             self._put_off = put_off
