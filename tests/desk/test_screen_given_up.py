@@ -9,7 +9,7 @@ from pathlib import Path
 import pytest
 
 from braildesk import Session
-from braildesk.desk.draft import Aim, Draft
+from braildesk.desk.draft import Aim, Draft, Unread
 from braildesk.desk.drafts import Drafts
 from braildesk.desk.own_folder import OwnFolder
 from scribe.screen.drawing import draw
@@ -280,7 +280,7 @@ def test_a_text_that_is_left_for_later_is_asked_about_after_a_later_one_that_was
     assert "“It rose.”" in asked(again)
     again.press(answer, *["enter", "escape"] * (answer == "y"))
     again.state = again.desk.save_draft(again.state)
-    again.press("U")
+    again.press("U", *["U"] * (answer == "n"))
     assert "“The Tide”" in asked(again) or answer == "l"
     again.press("n", "q")
     again.desk.close()
@@ -313,6 +313,37 @@ def test_the_last_ten_given_up_are_kept_beside_one_that_is_left_for_later(
     assert kept == [f"It rose {number}." for number in reversed(range(10))]
     waiting = Drafts(moon).waiting()
     assert waiting and waiting.text == "The Tide"
+
+
+def test_what_was_given_up_or_left_for_later_last_is_what_u_asks_about_first(
+    moon: Path, sit: Sit
+) -> None:
+    Drafts(moon).save(Draft(Aim.EDIT, 2, "en", "The Tides", "The Tide"))
+    sat = sit(moon)
+    paste(sat, "It set.")
+    sat.press("l", "U")
+    assert asked(sat).startswith("1 of 2. ") and "“The Tide”" in asked(sat)
+    sat.press("n", "o", *"It rose.", "escape")
+    assert sat.state.message == "Given up. The book is as it was. U brings it back."
+    for text in ("It rose.", "The Tide", "It set.", "It rose."):
+        sat.press("U")
+        assert f"“{text}”" in asked(sat)
+    sat.press("n", "o", *"It shone.", "escape", "U")
+    assert "“It shone.”" in asked(sat)
+    sat.press("U")
+    assert "“It rose.”" in asked(sat)
+
+
+def test_what_came_last_before_an_end_is_what_u_asks_about_first(
+    moon: Path, sit: Sit
+) -> None:
+    drafts = Drafts(moon)
+    drafts.keep_later([Draft(Aim.EDIT, 2, "en", "The Tides", "The Tide")])
+    drafts.keep_unread(Unread("", Draft(Aim.AFTER, 1, "en", "", "It rose.", None, 5)))
+    sat = sit(moon)
+    assert "is set aside: “It rose.”. U brings it back." in sat.state.message
+    sat.press("U")
+    assert "“It rose.”" in asked(sat)
 
 
 @pytest.mark.parametrize("keys", ["n", "l", "l U U y escape", "y escape", "y enter"])

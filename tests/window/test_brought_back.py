@@ -418,7 +418,8 @@ def test_a_text_that_waits_is_not_lost_where_the_session_ends_before_it_is_offer
     assert _kept(desk) == ([], "So: The Moon")
     assert Drafts(desk.path).later() == (replace(EDIT, version=3),)
     desk.act("give_up")
-    assert [each.text for each in desk.unsent.texts()] == [EDIT.text, "So: The Moon"]
+    # what was given up is the first that it shows
+    assert [each.text for each in desk.unsent.texts()] == ["So: The Moon", EDIT.text]
 
 
 def test_what_waits_is_all_said_at_the_opening(desk: Desk) -> None:

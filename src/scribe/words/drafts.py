@@ -194,6 +194,8 @@ class Unsent:
         self._put_off: tuple[Draft, ...] = ()
         # what was given up and couldn't be kept, the newest first
         self._here: list[Draft] = []
+        # what was given up here since a text was last left for later, the newest first
+        self._newest: tuple[str, ...] = ()
         #: What was said of that, until it isn't so any more.
         self.unkept_said = ""
         # what was given up before and had no room any more, the newest first
@@ -234,6 +236,7 @@ class Unsent:
             self.waiting, text = whole, unread.rest.text
         if text:
             self._older = self._drafts.put_by(replace(unread.rest, text=text))
+            self._newest = (text,)
             said = typed_at_offer if unread.is_at_offer else came_last
             self.came_last = said(text)
         self.keep_unread(None)
@@ -324,6 +327,8 @@ class Unsent:
         """Keeps a text as the newest of those given up, and says what is in the way of that."""
         self._forget(draft.text)
         self._here = [each for each in self._here if each.text != draft.text]
+        others = (each for each in self._newest if each != draft.text)
+        self._newest = (draft.text, *others)
         try:
             older = self._drafts.put_by(draft)
         except NotKept as fault:
@@ -342,8 +347,9 @@ class Unsent:
 
     def put_off(self) -> None:
         """Leaves the text that waits for later."""
-        if self.waiting is not None and self.waiting not in self._later:
-            self._later = (self.waiting, *self._later)
+        if self.waiting is not None:
+            others = (each for each in self._later if each != self.waiting)
+            self._later, self._newest = (self.waiting, *others), ()
 
     def take_on(self, draft: Draft) -> None:
         """A text that was left for later isn't any more: it is typed further, or nobody wants it."""
@@ -363,7 +369,7 @@ class Unsent:
         self._later = tuple(each for each in self._later if each.text != text)
 
     def texts(self) -> tuple[Draft, ...]:
-        """The texts that are left for later, and those given up, the newest first."""
+        """The texts that are left for later, and those given up: what was done last with one first."""
         first = [*self._later, *self._here]
         try:
             kept = self._drafts.given_up()
@@ -372,4 +378,5 @@ class Unsent:
                 raise
             kept = ()
         found = {each.text: each for each in (*first, *kept, *self._older)}
-        return tuple(found.values())
+        newest = [found.pop(each) for each in self._newest if each in found]
+        return (*newest, *found.values())
