@@ -183,20 +183,76 @@ def test_what_a_mark_goes_on_is_said_where_its_note_is_typed_further(
     sat = sit(moon)
     sat.press("/", *"far", "enter", "m", *"how far?", "escape", "U", "y")
     assert sat.state.heard == "On “far”."
-    # it has the same cells whatever print was put in before them
     sat.press("escape", "home", "enter", *"Oh, ", "enter", "U")
+    assert "has been changed since" not in asked(sat)
+    sat.press("y")
+    assert sat.state.heard == "On “far”."
+    # it has the same cells whatever print was put in where its words were
+    sat.press("escape", "enter", "end", *["backspace"] * len("far away."), "enter")
+    sat.press(
+        "enter",
+        "home",
+        *["delete"] * len("Oh, "),
+        "end",
+        *"by the hills.",
+        "enter",
+        "U",
+    )
     assert "The print there has been changed since." in asked(sat)
     sat.press("y")
-    assert sat.state.heard == "On “n i”. The print there has been changed since."
+    assert sat.state.heard == "On “e h”. The print there has been changed since."
     sat.state = sat.desk.resized(sat.state, Size(40, 2))
     # where it will be is seen first
-    words = "On “n i”. The print there has been…"
+    words = "On “e h”. The print there has been…"
     assert sat.lines[1] == words
     sat.press("end")
     assert sat.lines == [words, "Note of the mark: how far?"]
     sat.state = sat.desk.resized(sat.state, Size(80, 24))
     sat.press("enter")
-    assert "Mark 2, open, on “n i”: how far?" in " ".join(sat.lines)
+    assert "Mark 2, open, on “e h”: how far?" in " ".join(sat.lines)
+
+
+@pytest.mark.parametrize(
+    "old, new",
+    [
+        ("The moon", "In the night the moon"),
+        ("away", "off"),
+        ("The moon is far away.", "So far it was never."),
+    ],
+)
+def test_a_note_that_waits_is_for_its_words_where_others_were_changed(
+    moon: Path, sit: Sit, old: str, new: str
+) -> None:
+    sat = sit(moon)
+    sat.press("/", *"far", "enter", "m", *"how far?")
+    sat.state = sat.desk.save_draft(sat.state)
+    sat.desk.close()
+    with Session(moon) as session:
+        start = session.print_of(1).index(old)
+        session.correct(1, start, len(old), new)
+    again = sit(moon)
+    assert "“how far?”" in asked(again)
+    assert "has been changed since" not in asked(again)
+    again.press("y")
+    assert again.state.heard == "On “far”."
+    again.press("enter")
+    assert "Mark 2, open, on “far”: how far?" in " ".join(again.lines)
+
+
+@pytest.mark.parametrize("new", ["near", "farther", "the sea"])
+def test_that_the_words_of_a_note_that_waits_were_changed_is_said(
+    moon: Path, sit: Sit, new: str
+) -> None:
+    sat = sit(moon)
+    sat.press("/", *"far", "enter", "m", *"how far?")
+    sat.state = sat.desk.save_draft(sat.state)
+    sat.desk.close()
+    with Session(moon) as session:
+        session.correct(1, session.print_of(1).index("far"), 3, new)
+    again = sit(moon)
+    assert "The print there has been changed since." in asked(again)
+    again.press("y")
+    assert again.state.heard.endswith(" The print there has been changed since.")
 
 
 def test_a_note_that_waits_is_not_taken_for_a_mark_on_other_words(

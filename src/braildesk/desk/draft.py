@@ -7,7 +7,7 @@ from enum import Enum, auto
 from braildesk.desk.record import NotSuch, Record
 from braildesk.protocol.value import Value
 from braildesk.text import limits
-from braildesk.text.spans import Span
+from braildesk.text.spans import Span, find_spans
 
 _SURROGATE = re.compile("[\ud800-\udfff]")
 _NAME = re.compile(f"[^ \n\r\0]{{1,{limits.NAME_CHARACTERS}}}")
@@ -32,7 +32,8 @@ class Draft(Value):
     """A text that was typed: what for, at which paragraph, and how its print read then.
 
     Lines that were pasted, and may become paragraphs, are parted by LF. The cells are those of the
-    mark whose note was typed. The version is that of the book at that time, if it is known.
+    mark whose note was typed, and the words those of it in that print, if they are known. The version
+    is that of the book at that time, if it is known.
     """
 
     aim: Aim
@@ -42,6 +43,7 @@ class Draft(Value):
     text: str
     cells: Span | None = None
     version: int | None = None
+    words: Span | None = None
 
     @property
     def joined(self) -> str:
@@ -68,10 +70,37 @@ class Draft(Value):
         number = self.paragraph if self.aim is Aim.EDIT else newest
         return replace(self, aim=Aim.AFTER, paragraph=number, text=rest)
 
+    def words_in(self, now: str) -> Span | None:
+        """Where the words that it is a note for stand in a print by now; none if nobody can tell.
+
+        They were moved by a change beside them, or stand just once in either print.
+        """
+        # imported here, since few texts are notes
+        from braildesk.desk.correction import smallest_correction
+
+        its, before = self.words, self.before
+        if its is None or not its.start < its.stop <= len(before):
+            return None
+        sought, least = before[its.start : its.stop], smallest_correction(before, now)
+        if least is None or its.stop <= least.start:
+            there = its
+        elif its.start >= least.stop:
+            moved = len(now) - len(before)
+            there = Span(its.start + moved, its.stop + moved)
+        else:
+            found = find_spans(now, sought)
+            if len(found) != 1 or len(find_spans(before, sought)) != 1:
+                return None
+            there = found[0]
+        # a word that goes on by now is another one
+        return there if _goes_on(now, there) == _goes_on(before, its) else None
+
     def values(self) -> dict[str, object]:
         """What is kept of it as JSON."""
-        cells = self.cells
+        cells, words = self.cells, self.words
+        has_words = words is not None and words.start < words.stop
         return {
+            **({"words": words} if has_words else {}),
             "purpose": self.aim.name,
             "paragraph": self.paragraph,
             "table": self.table,
@@ -125,8 +154,9 @@ def draft_in(kept: Record) -> Draft:
         table,
         kept.text("before"),
         kept.text("text"),
-        _cells(kept.numbers("cells")) if kept.has("cells") else None,
+        _span(kept, "cells"),
         kept.number_or_none("version"),
+        _span(kept, "words"),
     )
 
 
@@ -135,7 +165,16 @@ def written(text: str) -> str:
     return _SURROGATE.sub("\N{REPLACEMENT CHARACTER}", text)
 
 
-def _cells(places: list[int]) -> Span:
+def _span(kept: Record, name: str) -> Span | None:
+    if not kept.has(name):
+        return None
+    places = kept.numbers(name)
     if len(places) != 2 or places[0] >= places[1]:
-        raise NotSuch("cells")
+        raise NotSuch(name)
     return Span(*places)
+
+
+def _goes_on(text: str, words: Span) -> tuple[bool, bool]:
+    """Whether a letter or a digit stands right before words, and whether one stands after them."""
+    before, after = text[: words.start][-1:], text[words.stop :][:1]
+    return before.isalnum(), after.isalnum()

@@ -5,6 +5,7 @@ from dataclasses import dataclass, replace
 from enum import Enum, auto
 
 from braildesk.text.sequences import seams
+from braildesk.text.spans import Span
 
 
 class Purpose(Enum):
@@ -51,6 +52,8 @@ class Field:
     said: str = ""
     #: The print from which it was typed, if that was another one than it is now.
     before: str | None = None
+    #: The words of the paragraph's print that a note is for.
+    words: Span | None = None
 
     @property
     def front(self) -> str:

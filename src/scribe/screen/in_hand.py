@@ -81,17 +81,25 @@ def holding(state: State, mark: int) -> State:
 def asked_for_note(session: Session, state: State, cells: Span) -> State:
     """The state in which the note of a mark is typed; said are all the words that it will be on."""
     assert state.paragraph is not None
-    said = on_words(session, state.paragraph.id, cells)
-    return prompted(state, Purpose.NOTE, said, _OF_MARK)
+    number = state.paragraph.id
+    state = prompted(state, Purpose.NOTE, on_words(session, number, cells), _OF_MARK)
+    assert state.typed is not None
+    words = marked_words(session, number, cells)
+    return replace(state, typed=replace(state.typed, words=words))
 
 
 def on_words(session: Session, paragraph: int, cells: Span) -> str:
     """All the words that a mark on cells will be on; nothing if the paragraph has no cells."""
-    text, braille = session.print_of(paragraph), session.braille_of(paragraph)
-    if not braille:
+    words = marked_words(session, paragraph, cells)
+    if words is None:
         return ""
-    words = words_of(session, paragraph, cells, text, braille)
-    return f"On {quoted(text[words.start : words.stop])}."
+    return f"On {quoted(session.print_of(paragraph)[words.start : words.stop])}."
+
+
+def marked_words(session: Session, paragraph: int, cells: Span) -> Span | None:
+    """Where these words stand in the print; none if the paragraph has no cells."""
+    text, braille = session.print_of(paragraph), session.braille_of(paragraph)
+    return words_of(session, paragraph, cells, text, braille) if braille else None
 
 
 def touched(marks: list[Mark]) -> str:

@@ -498,7 +498,8 @@ def draft_of(state: State) -> Draft | None:
     number = state.paragraph.id if state.paragraph else None
     cells = state.chosen_cells if typed.purpose is Purpose.NOTE else None
     aim = Aim[typed.purpose.name]
-    return Draft(aim, number, state.table, before, text, cells, state.version)
+    its = (aim, number, state.table, before, text, cells, state.version)
+    return Draft(*its, typed.words)
 
 
 def lines_typed(state: State) -> tuple[str, ...]:

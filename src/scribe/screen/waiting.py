@@ -5,14 +5,14 @@ from dataclasses import replace
 from braildesk import Session
 from braildesk.desk.draft import Aim, Draft
 from braildesk.desk.kept_lines import lines_kept, lines_left, mark_kept
-from braildesk.desk.places import words_of
+from braildesk.desk.places import cells_of, words_of
 from braildesk.text.characters import visible
 from braildesk.text.sequences import composed
 from braildesk.text.spans import Span
 
 from scribe.screen.actions import BringBack, GiveUp, PutBy, PutOff, Quit
 from scribe.screen.field import Purpose
-from scribe.screen.in_hand import on_words
+from scribe.screen.in_hand import marked_words, on_words
 from scribe.screen.state import (
     Pane,
     Question,
@@ -160,7 +160,7 @@ def asked_about(
     if places:
         state = state.at(places[0])
         now = session.print_of(state.book[places[0]].id)
-        changed = changed_since(saved, now)
+        changed = "" if saved.words_in(now) else changed_since(saved, now)
         before = saved.before if changed and saved.aim is Aim.EDIT else None
     amount = _amount(saved)
     sentence = (
@@ -173,8 +173,9 @@ def asked_about(
         cells = _cells_of(session, number, saved)
         state = _with_chosen(session, state, cells)
         said = on_words(session, number, cells)
+        words = marked_words(session, number, cells)
         # on few lines no more than its front is seen: where the note will be
-        field = replace(field, said=f"{said}{changed}".strip())
+        field = replace(field, said=f"{said}{changed}".strip(), words=words)
     elif not places and not saved.aim.is_new:
         field = replace(field, purpose=Purpose.AFTER)
     table = saved.table if saved.table in state.tables else None
@@ -213,9 +214,13 @@ def unkept(session: Session, state: State, saved: Draft) -> Draft | None:
 
 
 def _cells_of(session: Session, number: int, saved: Draft) -> Span:
-    """The cells on which a note would stand."""
+    """The cells on which a note would stand: those of its words, if these were moved."""
+    now, braille = session.print_of(number), session.braille_of(number)
+    words = saved.words_in(now) if now != saved.before and braille else None
+    if words is not None:
+        return cells_of(session, number, words)
     cells = saved.cells or Span(0, 1)
-    is_there = cells.stop <= len(session.braille_of(number))
+    is_there = cells.stop <= len(braille)
     return cells if is_there else Span(0, 1)
 
 
