@@ -26,7 +26,7 @@ from scribe.words.drafts import Unsent, not_kept, taken_back_in_part
 from sitting import Sit
 from strangers import NEEDS_ROOT, STRANGER, as_stranger
 
-NOTE = Draft(Aim.NOTE, 3, "en", "The Tides", "which?\nwhy?", Span(2, 4), 9)
+NOTE = Draft(Aim.NOTE, 3, "en", "The Tides", "which?\nwhy?", Span(2, 4), 9, Span(1, 3))
 FORGED = {
     "purpose": "EDIT",
     "paragraph": 2,
@@ -34,6 +34,7 @@ FORGED = {
     "before": "The Tides",
     "text": "The Tide",
     "cells": None,
+    "words": None,
     "version": 7,
 }
 
@@ -733,7 +734,8 @@ def test_only_values_of_the_right_types_are_read_as_a_draft(
     assert found.version is None or type(found.version) is int
     for text in (found.before, found.text, found.table or ""):
         text.encode()
-    assert found.cells is None or 0 <= found.cells.start < found.cells.stop
+    for places in (found.cells, found.words):
+        assert places is None or 0 <= places.start < places.stop
     assert draft_in(Record.of(json.dumps(found.values()).encode())) == found
 
 
