@@ -302,7 +302,7 @@ def test_a_text_that_is_left_for_later_waits_through_other_work(
     sat = sit(moon)
     sat.press("l")
     assert sat.state.message == (
-        "The text waits for the next opening. U asks about it before."
+        "The text waits. U asks about it, and so does an opening at which no newer one waits."
     )
     sat.press("s", "s", "o", *"It rose.", "enter", *"It set.")
     sat.state = sat.desk.save_draft(sat.state)

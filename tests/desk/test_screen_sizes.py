@@ -168,7 +168,7 @@ def test_a_question_is_read_whole_on_few_lines(
     terminal.keys("home")
     terminal.wait("Paragraph 2, body, nothing kept yet")
     terminal.answer("l")
-    terminal.wait("The text waits for the next opening. U…")
+    terminal.wait("The text waits. U asks about it, and so…")
     terminal.keys("q")
     assert terminal.ended() == 0
 

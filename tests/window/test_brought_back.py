@@ -397,7 +397,9 @@ def test_a_text_that_waits_is_offered_also_where_one_beside_the_book_is_none(
     desk.acting(Actions(desk).offer)
     assert given["said"][0].startswith("A text of paragraph 2 was typed and isn't in")
     said = desk.window.message.text
-    assert said.startswith("The text waits for the next opening.")
+    assert said.startswith(
+        "The text waits. Ctrl+B asks about it, and so does an opening at which no newer one waits."
+    )
     assert f"{beside} isn't taken as a text that waits for the book" in said
     _type(desk, "So: ")
     assert _kept(desk) == ([], "So: The Moon")

@@ -45,7 +45,7 @@ _ONCE_OPEN = (
     "No key of that text was obeyed. Once the book is open again, U brings it back, for a new"
     " paragraph."
 )
-_LATER = "The text waits for the next opening. U asks about it before."
+_LATER = "The text waits. U asks about it, and so does an opening at which no newer one waits."
 _NOT_LATER = "The text couldn't be kept to wait. U brings it back."
 _KEPT = "They are kept as a text, which U brings back."
 _BACK_LATER = "Once nothing is asked or typed any more, U brings it back."

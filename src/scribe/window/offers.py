@@ -138,5 +138,6 @@ class Offers:
             desk.say(f"Given up. The book is as it was. {desk.put_by(waiting)}")
         else:
             desk.say(
-                "The text waits for the next opening. Ctrl+B asks about it before."
+                "The text waits. Ctrl+B asks about it, and so does an opening at which no newer"
+                " one waits."
             )
