@@ -38,11 +38,11 @@ WORK = (
     " down enter end ', she said' second c-w c-y second escape"
     " o 'Noon' second [One.|Two.|Three.] second y escape"
     " up u y away"
-    " [pasted|where none|is typed] U U y n second ' And on.' enter"
+    " [pasted|where none|is typed] U y n second ' And on.' enter"
     " escape m 'which?' second escape U U n"
     " enter 'Oh, ' second enter u"
     " s b u u"
-    " U y second escape"
+    " U U U U y second escape"
     " o 'The last.' second"
 )
 #: A text that waits from before, and is left for later.
@@ -208,7 +208,7 @@ def check_left(path: Path, whole: list[Shown], count: int, moment: int) -> None:
         assert version != each.version or book == each.book, moment
     drafts = Drafts(path)
     waiting = drafts.waiting()
-    given_up = [each.text for each in drafts.given_up()]
+    given_up = [each.text for each in (*drafts.given_up(), *drafts.later())]
     prints = [str(each[3]) for each in book]
     there = [*given_up, *prints, waiting.text if waiting else ""]
     for text in [LATER, *before.given_up]:
