@@ -832,6 +832,22 @@ def test_what_is_typed_on_at_a_lost_book_replaces_nothing_that_others_type_where
     assert set(other.given_up()) == {first, theirs, NOTE, next_of_theirs}
 
 
+def test_texts_that_are_left_for_later_at_a_lost_book_stand_beside_those_where_it_was_saved(
+    moon: Path,
+) -> None:
+    own, other = Drafts(moon), Drafts(moon.with_name("other.braildesk"))
+    first, second, theirs = (
+        replace(NOTE, text=text) for text in ("One.", "Two.", "Theirs.")
+    )
+    own.keep_later([first])
+    own.copy_to(other.book)
+    assert other.later() == (first,)
+    other.keep_later([theirs, first])
+    own.keep_later([second, first])
+    own.copy_to(other.book)
+    assert other.later() == (second, first, theirs)
+
+
 @pytest.mark.parametrize(
     "done, said",
     [

@@ -462,6 +462,11 @@ class Drafts:
             with suppress(NotSuch, OSError, NotKept):
                 if what is Begun.GIVEN_UP and other.given_up():
                     continue
+                if what is Begun.LATER and (theirs := other.later()):
+                    own = self.later()
+                    others = (each for each in theirs if each not in own)
+                    other.keep_later((*own, *others))
+                    continue
                 data = self._folder.read(self._name(what))
                 if data is not None:
                     other._write(
