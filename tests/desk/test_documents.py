@@ -1411,8 +1411,8 @@ def test_a_paragraph_of_an_odt_is_noted_that_is_emphasized_by_its_style_but_head
     # one that is struck out is said, whatever else it is, but for words that aren't
     struck = 'style:text-line-through-style="{}"'
     own += style("H1", "Warning", struck.format("solid"))
-    left = style("T1", "", struck.format("none")).replace('"paragraph"', '"text"')
-    span = '<text:span text:style-name="T1"> left</text:span>'
+    left = style("Left", "", struck.format("none")).replace('"paragraph"', '"text"')
+    span = '<text:span text:style-name="Left"> left</text:span>'
     text += f'<text:h text:outline-level="1" text:style-name="H1">Struck{span}</text:h>'
     found = read_manuscript(odt(tmp_path / "a.odt", text, own + left, styles))
     emphasized = [f"In {name}" for name in "P0 P1 P2 P4 P5 P6 P9".split()]
@@ -1424,12 +1424,14 @@ def test_words_that_are_plain_in_an_emphasized_paragraph_of_an_odt_are_not_noted
     tmp_path: Path,
 ) -> None:
     style = '<style:style style:name="{}" style:family="{}"><style:text-properties fo:font-weight="{}"/></style:style>'
-    own = style.format("P1", "paragraph", "bold") + style.format("T1", "text", "normal")
-    own += style.format("T2", "text", "bold")
+    own = style.format("P1", "paragraph", "bold") + style.format(
+        "Plain", "text", "normal"
+    )
+    own += style.format("Bold", "text", "bold")
     words = '<text:span text:style-name="{}">{}</text:span>'
     inner = "<text:note-citation>1</text:note-citation><text:note-body><text:p>A note</text:p></text:note-body>"
     text = (
-        f"One<text:tab/>two{words.format('T1', ' three ' + words.format('T2', 'four') + ' five ')}six"
+        f"One<text:tab/>two{words.format('Plain', ' three ' + words.format('Bold', 'four') + ' five ')}six"
         f"<text:note>{inner}</text:note>{words.format('', ' seven')}"
     )
     text = f'<text:p text:style-name="P1">{text}</text:p>'
