@@ -2707,6 +2707,29 @@ def test_a_paragraph_of_a_page_is_noted_that_a_sheet_alone_emphasizes_but_headin
     assert sorted(lost(found, LossKind.EMPHASIS)) == sorted(emphasized)
 
 
+def test_a_block_of_a_page_that_is_emphasized_is_noted_by_its_first_words_but_headings() -> (
+    None
+):
+    sheet = (
+        ".bold { font-weight: bold } .it { font-style: italic } .line { text-decoration: line-through }"
+        " .plain { font-weight: 400; font-style: normal }"
+    )
+    body = (
+        "<div class=bold>One <i>two</i><p>three</p></div><div class=it><h2>Four</h2><p> &nbsp;</p><p>five</p><p>six</p></div>"
+        "<ul><li style='font-style: italic'>seven<li>eight<li class=line><p>nine</ul><div class=line><h3>Ten</h3></div>"
+        "<table><tr><td style='font-weight:700'>eleven<td class=bold><tr><td>twelve<td class=it><p>thirteen</table>"
+        "<div class=bold><p class=plain>fourteen<p>fifteen</p><div class='it' style='font-weight:400'>sixteen</div>seventeen</div>"
+        "<blockquote class=it><div class=plain>x</div></blockquote><div class=it><span class=plain>y</span></div>"
+        "<div class=bold></div><div>eighteen</div><table><tr><th class=it>nineteen<th class=bold>z</table>"
+    )
+    page = f"<html><head><style>{sheet}</style></head><body>{body}</body></html>"
+    found = contents.contents_of(page.encode(), ManuscriptKind.HTML).losses
+    emphases = [each.words for each in found if each.what is LossKind.EMPHASIS]
+    assert emphases == (
+        "One two|five|seven|nine|Ten|eleven|thirteen|fifteen|sixteen|seventeen"
+    ).split("|")
+
+
 def test_what_is_lost_within_words_that_are_shown_as_they_are_written_is_noted_as_elsewhere() -> (
     None
 ):

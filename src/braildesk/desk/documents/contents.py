@@ -82,7 +82,8 @@ _PLAIN_CLASSES = frozenset("arabic decimal itemized ordered orderedlist simple".
 _ENDED_BY: dict[str, tuple[str, ...]] = {
     **dict.fromkeys(("td", "th"), ("td", "th")),
     **dict.fromkeys(("dt", "dd"), ("dt", "dd")),
-    **{tag: (tag,) for tag in ("p", "tr", "option")},
+    **{tag: (tag,) for tag in ("p", "option")},
+    "tr": ("tr", "td", "th"),
 }
 #: Headings and the heads of columns, which are bold as such.
 _HEADS = ("th", "h1", "h2", "h3", "h4", "h5", "h6")
@@ -942,6 +943,8 @@ class _Html(Tags):
                 self._leave("li")
         elif self._path and (last := self._path[-1].tag) in _ENDED_BY.get(tag, ()):
             self._leave(last)
+        if tag in _HEADS:
+            self._emphasis.note_heading(len(self._texts))
         if tag == "style":
             media = attributes.get("media") or "all"
             self._is_for_print = _FOR_PRINT.search(media) is not None

@@ -3,7 +3,7 @@ lost within words that are shown as they are written, as is known of all others.
 """
 
 import re
-from collections.abc import Iterator, Mapping, Sequence
+from collections.abc import Collection, Iterator, Mapping, Sequence
 from dataclasses import dataclass
 from itertools import islice
 
@@ -22,6 +22,9 @@ _SMALL, _SMALL_CLASS = "span", "smallcaps"
 _LINK, _PARAGRAPH = "a", "p"
 #: Headings, which are bold and the like as such, and are struck out as any words are.
 _HEADS = frozenset("h1 h2 h3 h4 h5 h6".split())
+#: Blocks that have their words in paragraphs of their own too; a paragraph has none within it.
+_WHOLE = BLOCKS - _HEADS - {_PARAGRAPH, "th"}
+_STRUCK = "line-through"
 #: What declarations say of words that are emphasized.
 _EMPHASIZED = {
     "font-style": re.compile("italic|oblique"),
@@ -40,6 +43,8 @@ _PLAIN = {
 _PLACES = {"super": LossKind.SUPERSCRIPT, "sub": LossKind.SUBSCRIPT}
 #: How many characters are shown of such words, and how many pieces are looked at for them.
 _SHOWN = 60
+#: How many texts of a block are looked at for its first words.
+_MOST_TEXTS = 1_000
 #: How many characters of a piece are looked at, which may be the same for many elements.
 _FRONT = 200
 
@@ -72,6 +77,16 @@ class _Open:
     text: int
     piece: int | None
 
+    @property
+    def is_whole(self) -> bool:
+        """Whether it is all of a block that is no paragraph."""
+        return self.element.tag in _WHOLE and self.what is LossKind.EMPHASIS
+
+    @property
+    def is_struck(self) -> bool:
+        """Whether it is struck out."""
+        return _STRUCK in self.element.values.get("text-decoration", "").split()
+
 
 class PageEmphasis:
     """What is found of such words while a page is read."""
@@ -82,6 +97,8 @@ class PageEmphasis:
         self._open: list[_Open] = []
         #: The elements whose words are plain in what is open: how many are around each, and that.
         self._plain: list[tuple[int, list[_Open]]] = []
+        #: The texts that are headings.
+        self._heads: set[int] = set()
 
     def begin(
         self, element: Emphasized, depth: int, texts: Sequence[Sequence[str]], seam: str
@@ -95,10 +112,10 @@ class PageEmphasis:
             each
             for each in islice(reversed(self._open), _SHOWN)
             if each.names <= off
-            if each.text == text and each.piece is not None
+            if (each.is_whole or each.text == text) and each.piece is not None
         ]
         for each in its:
-            self._end(each, piece, texts, seam)
+            self._end(each, texts, seam)
             each.piece = None
         if its:
             self._plain.append((depth, its))
@@ -109,6 +126,10 @@ class PageEmphasis:
             its_names = frozenset(names)
             self._open.append(_Open(element, depth, what, its_names, text, piece))
 
+    def note_heading(self, text: int) -> None:
+        """Notes a text that is a heading."""
+        self._heads.add(text)
+
     def note_picture(self, texts: Sequence[Sequence[str]]) -> None:
         """Notes a picture that has no description, at the end of the text."""
         place = len(texts) - 1, len(texts[-1])
@@ -118,19 +139,19 @@ class PageEmphasis:
         """Notes that no more elements are open than so many; the seams of texts aren't shown."""
         while self._plain and depth <= self._plain[-1][0]:
             for each in self._plain.pop()[1]:
+                each.text = len(texts) - 1 if each.is_whole else each.text
                 each.piece = len(texts[each.text])
         while self._open and depth <= self._open[-1].depth:
-            last = self._open.pop()
-            self._end(last, len(texts[last.text]), texts, seam)
+            self._end(self._open.pop(), texts, seam)
 
-    def _end(
-        self, its: _Open, stop: int, texts: Sequence[Sequence[str]], seam: str
-    ) -> None:
-        """Notes the words that are open up to a piece of their text, if there are any."""
+    def _end(self, its: _Open, texts: Sequence[Sequence[str]], seam: str) -> None:
+        """Notes the words that are open up to the end of their text, if there are any."""
         text, piece = its.text, its.piece
         if piece is None:
             return
-        pieces = texts[text][piece : min(piece + _SHOWN, stop)]
+        if its.is_whole:
+            text, piece = self._first(its, texts, seam)
+        pieces = texts[text][piece : piece + _SHOWN]
         is_as_written = its.element.is_as_written
         is_number = (
             its.what in _PLACES.values() and not is_as_written and seam in pieces
@@ -141,6 +162,20 @@ class PageEmphasis:
         is_said = address is not None and words in (address, without_scheme(address))
         if words and not is_number and not is_said:
             self._found.append((its.what, words[:_SHOWN], text, piece))
+
+    def _first(
+        self, its: _Open, texts: Sequence[Sequence[str]], seam: str
+    ) -> tuple[int, int]:
+        """The first text of a block that has words, and the piece with which they begin; headings are as they are."""
+        piece = its.piece or 0
+        heads: Collection[int] = () if its.is_struck else self._heads
+        for text in range(its.text, min(its.text + _MOST_TEXTS, len(texts))):
+            pieces = texts[text][piece : piece + _SHOWN]
+            words = (plain(each.replace(seam, "")) for each in pieces)
+            if text not in heads and any(words):
+                return text, piece
+            piece = 0
+        return its.text, len(texts[its.text])
 
     def losses(self, texts: Sequence[Sequence[str]], seam: str) -> Iterator[Loss]:
         """What was found, each with the words around it in its text."""
@@ -182,10 +217,10 @@ def _lost(element: Emphasized) -> Iterator[tuple[LossKind, str]]:
         is_usual |= tag == _SMALL and name == "font-variant" and name in own
         is_usual |= _SMALL_CLASS in own and name == "font-variant"
         is_bold_head = element.is_in_head and name == "font-weight"
-        is_whole = tag == _PARAGRAPH and not is_bold_head
+        is_whole = tag in {_PARAGRAPH} | _WHOLE and not is_bold_head
         said = values.get(name, "").split()
         is_any = any(map(emphasized.fullmatch, said))
         if is_whole or is_within_line and not is_usual:
             yield from [(LossKind.EMPHASIS, name)] * is_any
-        elif tag in _HEADS and "line-through" in said:
+        elif tag in _HEADS and _STRUCK in said:
             yield LossKind.EMPHASIS, name
