@@ -28,6 +28,14 @@ def test_tags_of_html_end_lines_and_have_the_descriptions_of_pictures() -> None:
     assert lost(found) == [(LossKind.PICTURE, "")]
 
 
+def test_a_picture_that_has_a_title_alone_is_described_by_it() -> None:
+    found = read(
+        'One <img src=a.png title=\'A crater\'>, ![](b.png "Sea").\n\n![Sun](c.png "No")\n\n![](d.png "Far off")\n'
+    )
+    assert found.texts == ["One [A crater], [Sea].", "[Sun]", "[Far off]"]
+    assert (found.missing, found.losses) == ((), ())
+
+
 def test_what_tags_of_html_lose_is_noted_as_that_of_markdown_is() -> None:
     found = read("A <b>bold <i>*old*</i></b> 2<sup>32</sup> and H<sub>2</sub>O.</b>\n")
     assert found.texts == ["A bold old 232 and H2O."]

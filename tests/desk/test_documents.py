@@ -2414,6 +2414,19 @@ def test_pictures_without_an_address_are_described_too() -> None:
     assert len(lost(found, LossKind.PICTURE)) == 1
 
 
+def test_a_picture_without_a_description_of_its_own_is_described_by_its_title() -> None:
+    page = (
+        "<html><p>One <img src=x title='A crater'> two <img title=Sea> three <img src=x alt=Sun title=No>"
+        " four<q><img src=y title=End></q></p><p><img src=z alt=' ' title='Far off'></p>"
+        "<pre><img src=y title=Moon></pre></html>"
+    )
+    found = read_document(page.encode(), ManuscriptKind.HTML)
+    first = "One [A crater] two [Sea] three [Sun] four\u201c[End]\u201d"
+    assert found.texts == [first, "[Far off]"]
+    assert [each.words for each in found.missing] == ["Moon"]
+    assert lost(found, LossKind.PICTURE) == []
+
+
 def test_paragraphs_of_a_list_beside_its_items_are_typed_without_bullets() -> None:
     body = (
         "<ul class=x><p>one</p><li>two</li><p>three<p>four</p><li>five<ul><p>six</p></ul></li><h2>seven</h2></ul>"

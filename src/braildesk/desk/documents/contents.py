@@ -39,6 +39,7 @@ from braildesk.desk.documents.markup import (
     PARTED,
     Tags,
     characters_of_page,
+    description,
     field_words,
     is_guessed,
     words_beside,
@@ -1048,7 +1049,7 @@ class _Html(Tags):
         """Takes the description of a picture, and what is in a field of a form, for print."""
         its = dict(attrs)
         if tag == "img":
-            words = (its.get("alt") or "").strip()
+            words = description(its)
             is_shown = any(map(its.get, ("src", "srcset", "data-src")))
             if is_shown and not words and self._is_as_written and self._is_print:
                 self._emphasis.note_picture(self._texts)

@@ -121,6 +121,12 @@ def field_words(tag: str, attributes: Mapping[str, str | None]) -> str:
     return next(filter(None, shown), "")
 
 
+def description(attributes: Mapping[str, str | None]) -> str:
+    """The words that describe a picture of a page: its own description, or its title."""
+    said = ((attributes.get(name) or "").strip() for name in ("alt", "title"))
+    return next(filter(None, said), "")
+
+
 def words_beside(tag: str, attributes: Mapping[str, str | None]) -> str:
     """The words of an element that are shown and that no program types, as of a part of a picture."""
     return _ANY_TAG.sub(" ", attributes.get(_BESIDE.get(tag, "")) or "")

@@ -26,6 +26,7 @@ from braildesk.desk.documents.markup import (
     PARTED,
     Tags,
     characters_of_page,
+    description,
     field_words,
 )
 from braildesk.desk.documents.package import Package
@@ -350,7 +351,7 @@ class _Rewriting(Tags):
         found = written = self.get_starttag_text() or ""
         start = self._start()
         words = field_words(tag, dict(attrs))
-        is_print = words or tag == "img" and dict(attrs).get("alt")
+        is_print = words or tag == "img" and description(dict(attrs))
         if is_print:
             self._show(start, start)
         if tag in _WRITTEN:
@@ -364,7 +365,8 @@ class _Rewriting(Tags):
             written = f" {escape(words)} "
         if tag == "img" and "src" not in dict(attrs):
             # it has its address elsewhere, or shows its description, or nothing
-            is_shown = any(map(dict(attrs).get, ("alt", "srcset", "data-src")))
+            names = ("alt", "title", "srcset", "data-src")
+            is_shown = any(map(dict(attrs).get, names))
             written = f'<img src=""{written[1 + len(tag) :]}' if is_shown else ""
         address, has_name, name = (dict(attrs).get("href") or "").partition("#")
         if tag == "a" and has_name and address in self._addresses:

@@ -26,6 +26,8 @@ UNKNOWN_NOTE = "UnknownNote"
 _AROUND = 30
 #: Where a line ends.
 _LINE_END = re.compile("[\n\x85\u2028\u2029]")
+#: What pandoc writes before the title of a picture that stands alone.
+_OF_FIGURE = "fig:"
 #: What pandoc takes out of the text of a document as something said about it.
 _FRONT = ("title", "subtitle", "author", "date", "abstract")
 
@@ -360,7 +362,8 @@ class _Reader:
         if tag.name == "br":
             line.add("\n")
         elif tag.name == "img":
-            self._described(tag.attributes.get("alt") or "", line)
+            its = tag.attributes
+            self._described(its.get("alt", its.get("title")) or "", line)
         elif tag.name in _LOST_WITHIN and not tag.is_end:
             line.opened.append((tag.name, line.length))
         elif line.opened and line.opened[-1][0] == tag.name:
@@ -439,7 +442,8 @@ class _Reader:
             line.lose(LossKind.LINK, since)
 
     def _picture(self, content: Sequence[Any], line: _Line) -> None:
-        self._described(self._line(content[1]).text, line)
+        title = content[2][1].removeprefix(_OF_FIGURE)
+        self._described(self._line(content[1]).text.strip() or title, line)
 
     def _described(self, description: str, line: _Line) -> None:
         """Writes the description of a picture in brackets, or notes that there is none."""
