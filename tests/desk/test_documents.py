@@ -2450,6 +2450,23 @@ def test_items_keep_their_marks_around_a_list_that_stands_beside_them() -> None:
     assert (found.missing, found.losses) == ((), ())
 
 
+def test_text_and_tables_that_stand_in_a_list_beside_its_items_are_typed() -> None:
+    body = (
+        "<div>one<ul>two <b>three</b><p>four</p>five<li>six</li>seven<li>eight</li><table><tr><td>nine<td>ten</table></ul>eleven</div>"
+        "<ol start=2><li>a</li>&eacute;b&nbsp;<li>c</li>&nbsp; &#160;<li>d<p>e</p></li><div>f</div>g<img src=x alt=h></ol>"
+        "<div>i<ul>j</ul>k</div><ul><form><li>l</li><input value=m></form><li>n</ul><ul><ul>o<li>p</ul>q</ul>r"
+        "<ul><table><tr><td>s<ul><li>t</ul><td>u</table><li>v</ul><template><ul>no</ul></template>"
+        "<q>w<ul>x<li>y</li>z</ul></q>"
+    )
+    found = read_document(f"<html>{body}</html>".encode(), ManuscriptKind.HTML)
+    texts = (
+        "one|two three|four|five|• six|seven|• eight|nine; ten|eleven|2. a|éb|3. c|4. d|e|f|g[h]|i|j|k"
+        "|• l|m|• n|o|• p|q|r|s • t; u|• v|“w|x|• y|z”"
+    )
+    assert found.texts == texts.split("|")
+    assert found.missing == ()
+
+
 def test_an_item_of_a_list_keeps_its_number_whatever_it_begins_with() -> None:
     page = (
         "<html><ol><li><table><tr><td>a<td>b<tr><td>c<td>d</table><li><h2>Head</h2>"

@@ -79,8 +79,10 @@ _TEMPLATE = "template"
 
 
 #: Lists, and what pandoc doesn't read beside the items of one: paragraphs, and lists, with which it ends the other.
+#: Nor does it read text there, which a line end parts from that before it.
 _LISTS, _ITEM = frozenset({"ol", "ul"}), "li"
 _BESIDE_ITEMS = _LISTS | frozenset("dl h1 h2 h3 h4 h5 h6 p pre".split())
+_LINE_BREAK = "<br/>"
 
 
 @dataclass(slots=True)
@@ -91,7 +93,7 @@ class _List:
     front: int
     last_end: int = 0
     is_in_item: bool = False
-    #: Whether its tag isn't written yet, since paragraphs stand before its first item.
+    #: Whether its tag isn't written yet, since something stands before its first item.
     is_put_off: bool = False
 
 
@@ -231,7 +233,7 @@ class _Rewriting(Tags):
             self._put(start, stop, "")
         elif tag == "br":
             # an end of nothing, which browsers take for the end of a line too
-            self._put(start, stop, "<br/>")
+            self._put(start, stop, _LINE_BREAK)
         elif tag == _TEMPLATE and self._templates:
             self._put(self._templates.pop(), stop, "")
         elif self._lists and not self._templates:
@@ -256,6 +258,8 @@ class _Rewriting(Tags):
 
     def _show(self, start: int, stop: int) -> None:
         """Notes a part of the page that is print, with the sign at its end."""
+        if self._lists and not (self._lists[-1].is_in_item or self._templates):
+            self._go_on(self._lists[-1], _LINE_BREAK)
         if self._quotations.are_open and not self._templates:
             is_sign = self._page.startswith("&", start)
             stop += is_sign and self._page.startswith(";", stop)
@@ -267,8 +271,14 @@ class _Rewriting(Tags):
             self._put(self._start(), self._start(), its.tag * its.is_put_off)
             its.is_in_item, its.is_put_off = True, False
         elif tag in _BESIDE_ITEMS and not its.is_in_item:
-            self._pieces[its.last_end or its.front] = ""
-            its.is_put_off = not its.last_end
+            self._go_on(its, "")
+
+    def _go_on(self, its: _List, parting: str) -> None:
+        """Has the last item go on beside which something stands; ahead of all items, no list is written yet."""
+        place = its.last_end or its.front
+        if self._pieces[place] != _LINE_BREAK:
+            self._pieces[place] = parting
+        its.is_put_off = not its.last_end
 
     def _end_in_list(self, tag: str, start: int, stop: int) -> None:
         """Notes the end of an item, and that of a list, which isn't written if the list isn't."""
@@ -278,7 +288,9 @@ class _Rewriting(Tags):
             its.is_in_item, its.last_end = False, len(self._pieces) - 1
         elif tag in _LISTS:
             self._lists.pop()
-            self._put(start, stop, "" if its.is_put_off else self._page[start:stop])
+            parting = _LINE_BREAK * (self._pieces[its.front] == _LINE_BREAK)
+            end = parting if its.is_put_off else self._page[start:stop]
+            self._put(start, stop, end)
 
     def _begin_part(self, tag: str) -> None:
         """Ends the parts of a table that end where another begins, and notes that one."""
