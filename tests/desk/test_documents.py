@@ -1983,6 +1983,12 @@ off}",
             ["moon"],
         ),
         (
+            r"{\rtf1 one{\shp{\*\shpinst{\sp{\sn a}{\sv 1}}{\sp{\sn wzName}{\sv A m\'f6on}}{\sp{\sn wzDescription}{\sv }}}} two"
+            r"{\shp{\*\shpinst{\sp{\sn wzName}{\sv Text Box 2}}}}{\shp{\*\shpinst{\sp{\sn wzName}{\sv Object35}}}}"
+            r"{\pict{\sp{\sn wzDescription}{\sv far}}{\sp{\sn wzName}{\sv sea}}}{\header{\pict{\sp{\sn wzName}{\sv sea}}}}}",
+            ["A m\u00f6on", "far"],
+        ),
+        (
             r"{\rtf1 one t{\revised w}{\deleted s\u228 ?a\rquote\_}o \deleted far\deleted0  {\deleted m\plain sea}}",
             ["sea"],
         ),

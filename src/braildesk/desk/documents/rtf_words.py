@@ -20,8 +20,11 @@ _SILENT = frozenset(
 _WITH_PRINT = frozenset(b"fldinst shpinst shptxt ud".split())
 #: The code of a field, of which print shows little.
 _CODE = b"fldinst"
-#: What is said of a picture by its name, as what describes it, and the groups in which that stands.
-_DESCRIPTION = b"wzDescription"
+#: What is said of a picture by its name, as what describes it and its title, and the groups in which that stands.
+_DESCRIPTION, _TITLE = b"wzDescription", b"wzName"
+#: The groups of what is said of a picture, and its name if a program gave it that: a title ends otherwise.
+_PROPERTIES = frozenset((b"sp", b"sn", b"sv"))
+_NUMBERED = re.compile(r".*\d\s*", re.DOTALL)
 _OF_PICTURES = frozenset((b"pict", b"sp"))
 #: What describes one, or is its name: LibreOffice writes its title so, others a word with a number.
 _DESCRIBED = re.compile(
@@ -74,6 +77,10 @@ class _Group:
     #: Whether it has the name of what is said of a picture; and no picture in it is seen.
     is_name: bool = False
     is_away: bool = False
+    #: Whether it is of what is said of a picture; of what describes one or is its title, how many pieces of text stood
+    #: before it.
+    is_property: bool = False
+    said: int | None = None
     #: Of the code of a field, how many pieces of text stood before it, if it is one and these are whole.
     before: int | None = None
     font: int = 0
@@ -98,8 +105,10 @@ class _Reader:
         self._page = _LATIN
         self._usual = 0
         self._skipped = 0
-        #: The name of what is said next of a picture.
+        #: The name of what is said next of a picture; its title, and whether something else describes it.
         self._name = b""
+        self._title = ""
+        self._is_described = False
 
     def read(self, data: bytes) -> None:
         """Reads all signs of a text."""
@@ -126,12 +135,27 @@ class _Reader:
             self._group = replace(self._group, is_begun=False, is_apart=False)
         elif self._outer:
             self._text += [" "] if self._group.is_apart else []
-            before, self._group = self._group.before, self._outer.pop()
-            if before is not None and self._group.before is None:
-                code = "".join(self._text[before:])
-                self._text[before:] = (
+            its, self._group = self._group, self._outer.pop()
+            if its.before is not None and self._group.before is None:
+                code = "".join(self._text[its.before :])
+                self._text[its.before :] = (
                     [shown] if (shown := formula_of_code(code)) else []
                 )
+            self._end_property(its)
+
+    def _end_property(self, its: _Group) -> None:
+        """Notes what a group says of a picture; after all that is said of one, writes its title if nothing describes it."""
+        if its.said is not None and self._group.said is None:
+            words = "".join(self._text[its.said :])
+            if self._name.strip() == _TITLE:
+                del self._text[its.said :]
+                self._title = "" if _NUMBERED.fullmatch(words) else words
+            else:
+                self._is_described |= bool(words.strip())
+        elif not its.is_property:
+            is_shown = self._title and not self._is_described
+            self._text += [f" {self._title} "] if is_shown else []
+            self._title, self._is_described = "", False
 
     def _word(self, word: bytes, number: bytes | None) -> None:
         self._decode()
@@ -179,7 +203,8 @@ class _Reader:
         is_silent = group.is_silent or word in _SILENT
         is_silent |= group.is_passed_over and word not in _WITH_PRINT
         is_away = group.is_away or word in _SILENT - _OF_PICTURES
-        is_description = word == b"sv" and self._name.strip() == _DESCRIPTION
+        names = (_DESCRIPTION, _TITLE)
+        is_description = word == b"sv" and self._name.strip() in names
         is_silent &= is_away or not is_description
         if word == b"sn":
             self._name = b""
@@ -195,6 +220,8 @@ class _Reader:
             is_apart=word in _APART or is_description,
             is_name=word == b"sn",
             is_away=is_away,
+            is_property=word in _PROPERTIES,
+            said=len(self._text) if is_description else group.said,
             before=self._before(word),
         )
         if self._group.is_apart:
