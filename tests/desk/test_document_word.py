@@ -376,6 +376,31 @@ def test_words_at_the_edges_of_pages_are_missing_there_and_not_in_the_text(
     )
 
 
+def test_fields_that_lead_elsewhere_are_links_wherever_their_signs_stand(
+    tmp_path: Path,
+) -> None:
+    def in_one_run(code: str, shown: str) -> str:
+        return re.sub("</w:r><w:r>(<w:rPr></w:rPr>)?", "", field(code, shown))
+
+    far = 'HYPERLINK "http://moon.example/a"'
+    simple = f"<w:fldSimple w:instr='{far}'>{{}}</w:fldSimple>"
+    inner = simple.format(run("three ") + in_one_run("DATE", "four"))
+    fallback = f"<mc:AlternateContent><mc:Choice>{in_one_run(far, 'five')}</mc:Choice><mc:Fallback>{in_one_run(far, 'no')}</mc:Fallback></mc:AlternateContent>"
+    body = paragraph(field(far, "one"), in_one_run(far, "two"), inner, fallback)
+    body += paragraph(
+        in_one_run('HYPERLINK \\l "a"', "here"), simple.format(run("moon.example/a"))
+    )
+    body += paragraph(
+        in_one_run(" hyperlink http://sea.example", "six"),
+        f"<w:del>{in_one_run(far, 'no')}</w:del>",
+    )
+    body += paragraph(field(f"IF {in_one_run(far, 'no')}", "seven"))
+    found = read_manuscript(docx(tmp_path / "a.docx", body))
+    links = [each.words for each in found.losses if each.what is LossKind.LINK]
+    assert links == ["one", "two", "five", "six", "three four"]
+    assert found.texts == ["onetwothree fourfive", "heremoon.example/a", "six", "seven"]
+
+
 def test_what_is_shown_of_the_code_of_a_field_is_missing_if_it_has_no_result(
     tmp_path: Path,
 ) -> None:

@@ -13,7 +13,7 @@ from xml.sax.saxutils import escape
 from zipfile import ZipFile
 
 from braildesk.desk.documents import word_print
-from braildesk.desk.documents.field_codes import UNSEEN, unseen_fields
+from braildesk.desk.documents.field_codes import UNSEEN, unseen_places
 from braildesk.desk.documents.kinds import is_media, part_of, root_of, unpacked
 from braildesk.desk.documents.reading import Loss, LossKind, plain, whole
 from braildesk.desk.documents.tree import roman
@@ -116,6 +116,7 @@ def with_numbers(data: bytes, bullet: str) -> tuple[bytes, list[Loss]]:
                 part = _numbered(part, root, iter(lists.labels(root)))
                 losses += word_print.signs(root)
                 losses += word_print.emphasized(root, styles)
+                losses += word_print.links(root)
                 roots.append(root)
             elif name == _STYLES:
                 part = _restyled(part, styles)
@@ -135,7 +136,7 @@ def _restyled(part: bytes, styles: Element) -> bytes:
 def _numbered(part: bytes, root: Element, labels: Iterator[str]) -> bytes:
     """A part with what stands at the front of each paragraph, and what Word shows beside its text."""
     unseen = _in_codes(root) | word_print.replaced(root) | _for_older(root)
-    ahead, fields = word_print.texts_ahead(root), frozenset(unseen_fields(root))
+    ahead, fields = word_print.texts_ahead(root), frozenset(unseen_places(root))
     has_titles = b"tblCaption" in part
     paragraphs = root.iter(f"{_W}p") if has_titles else ()
     texts = {plain("".join(each.itertext())) for each in paragraphs}

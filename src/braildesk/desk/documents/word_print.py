@@ -14,9 +14,15 @@ from itertools import accumulate
 from xml.etree.ElementTree import Element
 from xml.sax.saxutils import escape, quoteattr
 
-from braildesk.desk.documents.field_codes import UNSEEN, shown_of_code
+from braildesk.desk.documents.field_codes import (
+    UNSEEN,
+    address_of_code,
+    shown_of_code,
+    unseen_fields,
+)
 from braildesk.desk.documents.reading import Loss, LossKind, emphases, plain, whole
 from braildesk.desk.documents.table_places import Places
+from braildesk.desk.documents.tree import without_scheme
 
 _W = "{http://schemas.openxmlformats.org/wordprocessingml/2006/main}"
 _W14 = "{http://schemas.microsoft.com/office/word/2010/wordml}"
@@ -218,6 +224,22 @@ def computed(root: Element) -> Iterator[Loss]:
             if id(each) in found:
                 yield Loss(LossKind.COMPUTED, "", fronts.of(paragraph))
                 found.remove(id(each))
+
+
+def links(root: Element) -> Iterator[Loss]:
+    """The words of a part that are fields which lead to other files, of which pandoc isn't shown that they do."""
+    found = [(each.begin, each.address, each.shown) for each in unseen_fields(root)]
+    for each in root.iter(_FIELD):
+        if address := address_of_code(each.get(f"{_W}instr", "")):
+            texts = (text.text or "" for text in each.iter(f"{_W}t"))
+            found.append((each, address, "".join(texts)))
+    parts = (part for tag in GONE if found for part in root.iter(tag))
+    gone = {id(each) for part in parts for each in part.iter()}
+    for begin, address, text in found:
+        words = plain(text)
+        is_said = words in (address, without_scheme(address))
+        if address and words and not is_said and id(begin) not in gone:
+            yield Loss(LossKind.LINK, words, words)
 
 
 class _Fronts:
