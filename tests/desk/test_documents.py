@@ -2433,6 +2433,20 @@ def test_a_picture_without_a_description_of_its_own_is_described_by_its_title() 
     assert lost(found, LossKind.PICTURE) == []
 
 
+@pytest.mark.parametrize(
+    "said, title, text",
+    [("", "Sea", "[Sea]"), ("", "fig:", ""), ("Sun", "fig:No", "[Sun]"), (" ", "", "")],
+)
+def test_a_picture_of_a_tree_is_described_by_its_title_if_nothing_else_does(
+    said: str, title: str, text: str
+) -> None:
+    words: list[Node] = [{"t": "Str", "c": said}]
+    picture: Node = {"t": "Image", "c": [["", [], []], words, ["a.png", title]]}
+    found = document({"blocks": [{"t": "Para", "c": [picture]}]})
+    assert [part.text for part in found.parts] == [text] * bool(text)
+    assert [loss.what for loss in found.losses] == [LossKind.PICTURE] * (not text)
+
+
 def test_paragraphs_of_a_list_beside_its_items_are_typed_without_bullets() -> None:
     body = (
         "<ul class=x><p>one</p><li>two</li><p>three<p>four</p><li>five<ul><p>six</p></ul></li><h2>seven</h2></ul>"
