@@ -1873,6 +1873,21 @@ def test_fields_of_doc_are_typed_as_they_stand_there(
     assert seen.read_bytes() == doc(story, shown)
 
 
+def test_a_text_in_doc_with_a_password_is_said_to_be_encrypted(
+    programs: Path,
+) -> None:
+    program(programs, "soffice", "exit 1")
+    plain = doc("One\r", [])
+    front = b"\xec\xa5\xc1" + bytes(7)
+    locked = plain.replace(front + b"\0\2", front + b"\0\3")
+    assert locked != plain
+    with pytest.raises(NoDocument) as found:
+        read_document(locked, ManuscriptKind.DOC)
+    assert found.value.why is WhyNot.ENCRYPTED
+    with pytest.raises(NotConverted):
+        read_document(plain, ManuscriptKind.DOC)
+
+
 def test_words_of_doc_that_libreoffice_leaves_out_are_missing(
     tmp_path: Path, programs: Path
 ) -> None:

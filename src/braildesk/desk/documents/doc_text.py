@@ -16,8 +16,8 @@ from braildesk.desk.documents.kinds import part_of, root_of, unpacked
 from braildesk.desk.documents.streams import DAMAGED, streams_of
 
 _STREAMS = ("WordDocument", "0Table", "1Table")
-#: What a text of Word since 1997 begins with, and what says which of two streams has its tables.
-_MAGIC, _IS_SECOND = 0xA5EC, 0x0200
+#: What a text of Word since 1997 begins with, what says that it is encrypted, and which of two streams has its tables.
+_MAGIC, _IS_ENCRYPTED, _IS_SECOND = 0xA5EC, 0x0100, 0x0200
 #: Which of the tables say where the text is, and where the fields of each of its stories are.
 _PIECES, _FIELDS = 33, (16, 17, 18, 19, 48, 57, 59)
 #: The lengths of the stories, and that of what stands at the edges of pages, which isn't looked at.
@@ -54,6 +54,7 @@ class _File:
         magic, flags = struct.unpack_from("<H8xH", self._front)
         if magic != _MAGIC:
             raise ValueError(magic)
+        self.is_encrypted = bool(flags & _IS_ENCRYPTED)
         self.tables = streams[_STREAMS[1 + bool(flags & _IS_SECOND)]]
         self._table = self.tables.of(data)
         (count,) = struct.unpack_from("<H", self._front, 32)
@@ -111,6 +112,14 @@ class _File:
                 yield text.decode("cp1252", "replace").encode("utf-16-le")
             else:
                 yield self._front[where : where + 2 * (last - first)]
+
+
+def is_encrypted(data: bytes) -> bool:
+    """Whether a text in DOC says that a password is needed to read it."""
+    try:
+        return _File(data).is_encrypted
+    except DAMAGED:
+        return False
 
 
 def as_shown(data: bytes) -> bytes:

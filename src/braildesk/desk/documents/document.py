@@ -94,6 +94,8 @@ def _by_office(
     data: bytes, kind: ManuscriptKind, reading: ReadingOptions, name: str
 ) -> Manuscript:
     """A text in RTF or DOC, with the words that LibreOffice leaves out."""
+    if kind is ManuscriptKind.DOC and doc_text.is_encrypted(data):
+        raise NoDocument(WhyNot.ENCRYPTED)
     made = pandoc.as_docx(data, kind, name)
     found = replace(_read_docx(made, reading), kind=kind)
     # what LibreOffice leaves out is in no part of what it makes
