@@ -4,6 +4,7 @@ import os
 import stat
 from collections.abc import Iterator
 from contextlib import contextmanager, suppress
+from dataclasses import replace
 from pathlib import Path
 from typing import BinaryIO
 
@@ -74,7 +75,8 @@ def open_file(book: BookFile, flags: int = os.O_RDONLY) -> BinaryIO:
     except OSError:
         if book.is_led_away:
             raise cannot_open(book, Why.LED_AWAY) from None
-        raise cannot_open(book, opening.why(book)) from None
+        its = replace(book, is_read=flags == os.O_RDONLY)
+        raise cannot_open(its, opening.why(its)) from None
     found = os.fstat(file.fileno())
     if not stat.S_ISREG(found.st_mode) or found.st_nlink > 1:
         file.close()
@@ -248,7 +250,8 @@ def copy_held(source: BinaryIO, log: str, made: Path) -> os.stat_result:
         try:
             work = open(os.open(log, flags), "rb")
         except PermissionError:
-            raise cannot_open(BookFile(path), Why.LOG_DENIED) from None
+            book = BookFile(path, is_read=True)
+            raise cannot_open(book, Why.LOG_DENIED) from None
         with work:
             if has_more_writers(work, source):
                 raise _not_taken(path, source)

@@ -104,7 +104,7 @@ _OF_DISK = (Why.UNKNOWN, Why.DENIED, Why.LOG_DENIED)
 def why(asked: AskedOfFile) -> Why:
     """Why the file can't be opened."""
     found = _why(asked)
-    if found in _OF_DISK and not isinstance(asked, TableFile):
+    if found in _OF_DISK and not asked.is_read:
         return _why_by_disk(asked.path) or found
     return found
 

@@ -112,7 +112,7 @@ def _state(book: BookFile, file: BinaryIO) -> tuple[int, int, int, bytes]:
         header = _header(book.log)
     except PermissionError as error:
         # the newest work is there
-        raise cannot_open(book, Why.LOG_DENIED) from error
+        raise cannot_open(replace(book, is_read=True), Why.LOG_DENIED) from error
     return found.st_size, found.st_mtime_ns, found.st_ctime_ns, header
 
 

@@ -2814,13 +2814,16 @@ DENIED = (
     "You aren't permitted to open “{}”. Nothing was changed. Ask who owns it for leave to read"
     " and write it and to write in its folder."
 )
+UNREAD = "You aren't permitted to read “{}”. Nothing was changed. Ask who owns {} for leave to {}."
 
 
 def test_a_book_that_may_not_be_read_says_so(book: Path, open_folder: Path) -> None:
     path = Path(shutil.copyfile(book, open_folder / "book"))
     path.chmod(0)
     said = as_nobody(ATTEMPTS, path, open_folder / "copied").splitlines()
-    assert said == [DENIED.format(path)] * 4
+    assert said[:2] == [DENIED.format(path)] * 2
+    # these read it, and write nothing there
+    assert said[2:] == [UNREAD.format(path, "it", "read it")] * 2
 
 
 def test_a_book_that_may_only_be_read_is_copied_and_not_opened(
@@ -2843,7 +2846,8 @@ def test_a_book_in_a_folder_that_may_not_be_entered_says_so(
     path = Path(shutil.copyfile(book, folder / "book"))
     path.chmod(0o666)
     said = as_nobody(ATTEMPTS, path, open_folder / "copied").splitlines()
-    assert said == [DENIED.format(path)] * 4
+    assert said[:2] == [DENIED.format(path)] * 2
+    assert said[2:] == [UNREAD.format(path, "its folder", "enter that")] * 2
 
 
 def test_a_new_book_in_a_folder_that_may_not_be_written_says_so(
@@ -2909,6 +2913,66 @@ def test_of_a_file_of_ones_own_nobody_else_is_asked(
     assert opened == front.format(path) + said
     assert made.endswith(f" Nothing was changed. {said}")
     folder.chmod(0o755)
+
+
+LOOKING = """
+import sys
+import braildesk
+from braildesk.snapshot import copied_session
+path, to = sys.argv[1:3]
+for attempt in (
+    lambda: copied_session(path).__enter__(),
+    lambda: braildesk.read_tables(path),
+    lambda: braildesk.copy(path, to),
+):
+    try:
+        attempt()
+    except braildesk.DeskError as error:
+        print(error.sentence)
+"""
+
+
+@pytest.mark.parametrize(
+    "of_file, of_folder, what",
+    [
+        (0o200, 0o755, "The file {}read it. This lets you: chmod u+r -- {file}"),
+        (0o444, 0o600, "Its folder {}enter it. This lets you: chmod u+x -- {folder}"),
+    ],
+)
+def test_to_look_at_a_book_of_ones_own_no_leave_to_write_is_taken(
+    book: Path, open_folder: Path, of_file: int, of_folder: int, what: str
+) -> None:
+    folder = open_folder / "a folder"
+    folder.mkdir()
+    path = Path(shutil.copyfile(book, folder / "book"))
+    if os.getuid() == 0:
+        os.chown(path, 65534, 65534)
+        os.chown(folder, 65534, 65534)
+    path.chmod(of_file)
+    folder.chmod(of_folder)
+    said = what.format(
+        "is your own, and its permissions don't let you ",
+        file=f"'{path}'",
+        folder=f"'{folder}'",
+    )
+    front = f"You aren't permitted to read “{path}”. Nothing was changed. "
+    found = as_nobody(LOOKING, path, open_folder / "copied").splitlines()
+    folder.chmod(0o755)
+    assert found == [front + said] * 3
+
+
+def test_a_table_that_may_not_be_read_is_to_be_read_alone(open_folder: Path) -> None:
+    path = open_folder / "own.utb"
+    path.write_text("space \\s 0\n")
+    path.chmod(0)
+    code = (
+        "import sys, braildesk\n"
+        "try:\n"
+        "    braildesk.translate(sys.argv[1], ['a'])\n"
+        "except braildesk.CannotOpen as error:\n"
+        "    print(error.sentence)\n"
+    )
+    assert as_nobody(code, path) == UNREAD.format(path, "it", "read it")
 
 
 @NEEDS_ROOT

@@ -421,9 +421,29 @@ def test_who_may_only_read_a_book_may_look_at_it_and_export_it(
     assert "A moon is far away." in found[0].shown
 
 
-@pytest.mark.parametrize("words", [["show"], ["strike", "1"]])
-def test_a_log_that_may_not_be_read_is_said_to_be_denied(
+@pytest.mark.parametrize("words", [["show"], ["export", "pages"], ["proof", "p.html"]])
+def test_who_looks_at_a_book_that_may_not_be_read_needs_no_leave_to_write(
     locked: Path, installed: Path, words: list[str]
+) -> None:
+    book = locked / "moon.braildesk"
+    locked.chmod(0o755)
+    book.chmod(0)
+    installed.chmod(0o777)
+    name, *rest = words
+    asked = [name, str(book), *(str(installed / each) for each in rest)]
+    (found,) = ran_by_another(installed, [asked])
+    assert found.status == 2
+    assert " ".join(found.said.split()) == (
+        f"You aren't permitted to read “{book}”. Nothing was changed. Ask who owns it for leave to"
+        " read it."
+    )
+
+
+@pytest.mark.parametrize(
+    "words, do", [(["show"], "read"), (["strike", "1"], "read and write")]
+)
+def test_a_log_that_may_not_be_read_is_said_to_be_denied(
+    locked: Path, installed: Path, words: list[str], do: str
 ) -> None:
     left_in_log(locked)
     book, log = locked / "moon.braildesk", locked / "moon.braildesk-wal"
@@ -434,7 +454,7 @@ def test_a_log_that_may_not_be_read_is_said_to_be_denied(
     (found,) = ran_by_another(installed, [[name, str(book), *rest]])
     assert found.status == 2
     assert " ".join(found.said.split()) == (
-        f"You aren't permitted to read and write “{log}”, in which the newest work of “{book}” is"
+        f"You aren't permitted to {do} “{log}”, in which the newest work of “{book}” is"
         f" looked for. Nothing was changed. Ask who owns “{log}”, or an administrator, for leave to"
         " do so."
     )

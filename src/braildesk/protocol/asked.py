@@ -32,6 +32,8 @@ class AskedOfFile(Value):
     path: str
     #: Where the path led when it was first looked at; nothing if that isn't known.
     led_to: str = field(default="", kw_only=True, compare=False)
+    #: Whether it was to be read, and nothing to be written there or beside it.
+    is_read: bool = field(default=False, kw_only=True, compare=False)
 
     @property
     def real(self) -> str:
@@ -67,6 +69,7 @@ class TableFile(AskedOfFile):
     """The file of a table, with its text if that could be read."""
 
     text: bytes = b""
+    is_read: bool = field(default=True, kw_only=True, compare=False)
 
 
 @dataclass(frozen=True, eq=False, repr=False)
@@ -143,13 +146,13 @@ def log_path(path: str) -> str:
     return f"{real_path(path)}-wal"
 
 
-def own_closed(path: str) -> str | None:
+def own_closed(path: str, in_folder: int = 0o700, of_file: int = 0o600) -> str | None:
     """The folder of a file, or the file, if it is this user's own and its mode lets them do less there.
 
     Whoever may do everything is kept out by no mode.
     """
     file, user = real_path(path), os.geteuid()
-    for each, mode in ((os.path.dirname(file), 0o700), (file, 0o600)):
+    for each, mode in ((os.path.dirname(file), in_folder), (file, of_file)):
         try:
             found = os.stat(each)
         except OSError:

@@ -240,6 +240,15 @@ UNOPENED = MappingProxyType(
     }
 )
 
+#: The same of a file that was to be read alone, where that says more.
+UNREAD = MappingProxyType(
+    {
+        Why.DENIED: "You aren't permitted to read {path}. {nothing} {leave_to_read}",
+        Why.LOG_DENIED: "You aren't permitted to read {log}, in which the newest work of {path} is looked"
+        " for. {nothing} {leave_to_read_log}",
+    }
+)
+
 
 #: What is said of a disk that takes no more, in place of the words of the system.
 _OF_FULL_DISK = MappingProxyType(

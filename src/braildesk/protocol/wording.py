@@ -31,6 +31,7 @@ from braildesk.protocol.sentences import (
     SENTENCES,
     STRUCK_ALREADY,
     UNOPENED,
+    UNREAD,
     Why,
     said_of_room,
 )
@@ -68,7 +69,14 @@ def _form(refusal: Refusal) -> str:
     form = SENTENCES.get(refusal.code, unknown)
     if refusal.code == Code.STRUCK and isinstance(refusal.asked, requests.Strike):
         form = STRUCK_ALREADY
-    return form.replace("{unopened}", UNOPENED[refusal.why])
+    return form.replace("{unopened}", _unopened(refusal))
+
+
+def _unopened(refusal: Refusal) -> str:
+    """What is said of a file that can't be opened, by what it was to be opened for."""
+    asked, said = refusal.asked, UNOPENED[refusal.why]
+    is_read = isinstance(asked, AskedOfFile) and asked.is_read
+    return UNREAD.get(refusal.why, said) if is_read else said
 
 
 def _alone(form: str) -> str:
@@ -214,7 +222,7 @@ class _Fields:
     def leave(self) -> str:
         """Who is asked for leave to use a file, or how one's own is used again."""
         named = self._asked.path if isinstance(self._asked, AskedOfFile) else ""
-        if not isinstance(self._asked, TableFile) and (kept := held(named)):
+        if kept := held(named):
             what = "it" if kept == real_path(named) else "its folder"
             return (
                 f"The system lets nobody change {what}, whatever its permissions are: perhaps it was"
@@ -228,12 +236,37 @@ class _Fields:
         return self._own_closed("Its folder", "read and write in it", "u+rwx", closed)
 
     @property
+    def leave_to_read(self) -> str:
+        """The same of a file that is read alone."""
+        named = self._asked.path if isinstance(self._asked, AskedOfFile) else ""
+        closed, file = own_closed(named, 0o100, 0o400), real_path(named)
+        if closed == file:
+            return self._own_closed("The file", "read it", "u+r", closed)
+        if closed is not None:
+            return self._own_closed("Its folder", "enter it", "u+x", closed)
+        if not os.access(os.path.dirname(file), os.X_OK):
+            return "Ask who owns its folder for leave to enter that."
+        return "Ask who owns it for leave to read it."
+
+    @property
     def leave_of_log(self) -> str:
         """The same of the log beside the file of a book."""
         path = self._asked.path if isinstance(self._asked, AskedOfFile) else ""
         log = log_path(path)
         if own_closed(log) == log:
             return self._own_closed("That file", "read and write it", "u+rw", log)
+        return self._leave_of_others_log(path)
+
+    @property
+    def leave_to_read_log(self) -> str:
+        """The same of a log that is read alone."""
+        path = self._asked.path if isinstance(self._asked, AskedOfFile) else ""
+        log = log_path(path)
+        if own_closed(log, 0o100, 0o400) == log:
+            return self._own_closed("That file", "read it", "u+r", log)
+        return self._leave_of_others_log(path)
+
+    def _leave_of_others_log(self, path: str) -> str:
         if is_left_out(path):
             return (
                 f"{self.log} is for the group of {self.path}, which is your own, and you aren't in that"
