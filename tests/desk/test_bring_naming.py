@@ -1,5 +1,6 @@
 """How a table of liblouis is named: by a file, an installed name, its title, or its language."""
 
+import os
 from pathlib import Path
 
 import pytest
@@ -94,6 +95,36 @@ def test_a_name_like_no_other_shows_none(folder: Path) -> None:
         named_table("qqqq")
     assert str(found.value).splitlines() == [
         f"There is no table qqqq, neither as a file nor in {folder}.",
+        "`scribe bring --list` shows all that are installed.",
+    ]
+
+
+@pytest.mark.parametrize(
+    ("kind", "what"),
+    [
+        ("a pipe", "it is a pipe and no file"),
+        ("a device", "it is a device and no file"),
+        ("a folder", "Is a directory"),
+        ("a loop", "Too many levels of symbolic links"),
+    ],
+)
+def test_what_is_there_and_no_file_is_not_said_to_be_missing(
+    folder: Path, kind: str, what: str
+) -> None:
+    path = folder / "qqqq"
+    match kind:
+        case "a pipe":
+            os.mkfifo(path)
+        case "a device":
+            path.symlink_to("/dev/null")
+        case "a folder":
+            path.mkdir()
+        case "a loop":
+            path.symlink_to(path)
+    with pytest.raises(NoTable) as found:
+        named_table(str(path))
+    assert str(found.value).splitlines() == [
+        f"The table {path} cannot be read: {what}.",
         "`scribe bring --list` shows all that are installed.",
     ]
 

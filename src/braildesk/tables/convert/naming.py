@@ -7,6 +7,7 @@ from difflib import get_close_matches
 from pathlib import Path
 from typing import Final
 
+from braildesk.named_files import open_file
 from braildesk.tables.convert.shipped import Shipped, shipped_tables
 from braildesk.tables.convert.source import NoTable, find_table, search_path
 
@@ -81,12 +82,24 @@ def _language_name(table: Shipped) -> str:
 
 def _none(name: str) -> NoTable:
     folders = ", ".join(str(folder) for folder in search_path())
-    sentence = f"There is no table {name}, neither as a file nor in {folders}."
+    none = f"There is no table {name}, neither as a file nor in {folders}."
+    sentence = _no_file(name) or none
     near = _near(name, _installed())
     if near:
         sentence += " Tables with a name like it:"
     listed = "`scribe bring --list` shows all that are installed."
     return NoTable(sentence, *map(_line, near), listed)
+
+
+def _no_file(name: str) -> str:
+    """What stands at a path in place of a file, as a folder or a pipe; nothing if nothing does."""
+    try:
+        open_file(name).close()
+    except (FileNotFoundError, NotADirectoryError):
+        return ""
+    except OSError as error:
+        return f"The table {name} cannot be read: {error.strerror}."
+    return ""
 
 
 def _near(name: str, tables: Sequence[Shipped]) -> list[Shipped]:
