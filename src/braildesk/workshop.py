@@ -19,10 +19,11 @@ from typing import BinaryIO, Self
 from braildesk.protocol.value import Value
 
 _PREFIX = ".braildesk-"
-#: The file that is made, and what is put beside it by the program and by SQLite when it reads what
-#: stands in a log. Nothing else is cleared away.
+#: The file that is made, what is put beside it by the program and by SQLite when it reads what
+#: stands in a log, and how the names of files end that are only tried. Nothing else is cleared away.
 _MADE = "book"
 _NAMES = frozenset({_MADE, f"{_MADE}-wal", f"{_MADE}-shm"})
+_TRIED = ".tried"
 #: The number by which `renameat2` replaces nothing.
 _NO_REPLACE = 1
 #: What a system says of that, and of bringing a folder to the disk, if it, or the file system, as one
@@ -158,6 +159,18 @@ def made_for_a_while() -> Iterator[Path]:
 
     with _made_in(tempfile.gettempdir()) as made:
         yield made
+
+
+@contextmanager
+def folder_for_a_while() -> Iterator[Path]:
+    """A folder of files that are only tried."""
+    with made_for_a_while() as made:
+        yield made.parent
+
+
+def tried_in(folder: Path, name: str) -> Path:
+    """Where a file is made that is only tried in a folder."""
+    return folder / f"{name}{_TRIED}"
 
 
 @contextmanager
@@ -579,7 +592,7 @@ def _remove(descriptor: int, folder: str) -> None:
         # btrfs shows who reads on no file that was made since the folder was opened
         os.lseek(descriptor, 0, os.SEEK_SET)
         names = os.listdir(descriptor)
-        if _NAMES.issuperset(names):
+        if all(name in _NAMES or name.endswith(_TRIED) for name in names):
             for name in names:
                 os.unlink(name, dir_fd=descriptor)
             os.rmdir(folder)

@@ -2,6 +2,7 @@
 
 import os
 import re
+import signal
 from collections.abc import Mapping
 from concurrent.futures import ThreadPoolExecutor
 from pathlib import Path
@@ -250,6 +251,27 @@ def test_a_table_replaces_one_that_was_brought_and_no_other_file_unless_that_is_
         tmp_path, "small.utb", "out.utb"
     )
     assert (tmp_path / "out.utb").read_text() == its
+
+
+def test_what_a_killed_bring_left_is_cleared_away_by_the_next_one(
+    tmp_path: Path,
+) -> None:
+    temporary = tmp_path / "temporary"
+    temporary.mkdir()
+    killer = tmp_path / "killer"
+    killer.write_text("#!/bin/sh\nkill -9 $PPID\n")
+    killer.chmod(0o755)
+    words, where = ("bring", small(tmp_path), "out.utb"), str(temporary)
+    ran = scribe(*words, folder=tmp_path, TMPDIR=where, BRAILDESK=str(killer))
+    assert ran.status == -signal.SIGKILL
+    # of one's own, and not made by a program
+    mine = temporary / ".braildesk-mine"
+    mine.mkdir()
+    (mine / "german.utb").write_text(SMALL)
+    assert len(list(temporary.iterdir())) == 2
+    assert scribe(*words, folder=tmp_path, TMPDIR=where).status == 0
+    assert list(temporary.iterdir()) == [mine]
+    assert (mine / "german.utb").read_text() == SMALL
 
 
 @pytest.mark.parametrize("name", ["a.utb", "a-table-with-a-long-name.utb"])

@@ -5,7 +5,6 @@ from __future__ import annotations
 import zlib
 from dataclasses import dataclass
 from pathlib import Path
-from tempfile import TemporaryDirectory
 from typing import Final
 
 from braildesk.tables.convert import report
@@ -25,6 +24,7 @@ from braildesk.tables.convert.words import (
     usable,
     words_in,
 )
+from braildesk.workshop import folder_for_a_while
 
 LIMIT: Final = 0.99
 """The share of lines that has to agree, those aside that need what the profile leaves out for good."""
@@ -71,9 +71,9 @@ def convert(table: Path, options: Options = Options()) -> Converted:
     # read here first, where a table that includes itself is seen before liblouis would loop on it
     source = read_source(table)
     addition = None if options.add is None else read_addition(options.add)
-    with Liblouis(table) as liblouis, TemporaryDirectory() as name:
+    with Liblouis(table) as liblouis, folder_for_a_while() as folder:
         subject = read_subject(source, liblouis)
-        return _Job(subject, options, addition, Path(name)).run()
+        return _Job(subject, options, addition, folder).run()
 
 
 @dataclass(frozen=True)

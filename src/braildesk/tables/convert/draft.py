@@ -15,6 +15,7 @@ from braildesk.refusals import Refused
 from braildesk.tables.convert.operands import MOST_CELLS, write_characters, write_dots
 from braildesk.tables.operands import Cells
 from braildesk.text.characters import visible
+from braildesk.workshop import tried_in
 
 MOST_LINES: Final = 20_000
 MOST_CHARACTERS: Final = 60
@@ -191,7 +192,7 @@ class ProgramTrial:
     """Drafts as the program translates by them. Nothing here stands in for the program."""
 
     def __init__(self, folder: Path) -> None:
-        self._file = folder / "draft.utb"
+        self._file = tried_in(folder, "draft")
 
     def cells(self, draft: TableDraft, lines: Sequence[str]) -> list[Cells | None]:
         """The cells of each line, or None if the draft lacks a character."""

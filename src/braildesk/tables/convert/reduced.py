@@ -11,6 +11,7 @@ from typing import Final
 
 from braildesk.tables.convert.oracle import Liblouis, NoLiblouis
 from braildesk.tables.convert.source import Source
+from braildesk.workshop import tried_in
 
 LEFT_OUT: Final[Mapping[str, tuple[str, ...]]] = {
     "passages of capitals": ("begcapsphrase", "endcapsphrase", "lencapsphrase"),
@@ -29,7 +30,7 @@ def needs(
         return {}
     found: dict[str, str] = {}
     theirs = liblouis.ask(lines)
-    whole = _beside(liblouis, source, (), folder / "whole.ctb")
+    whole = _beside(liblouis, source, (), tried_in(folder, "whole"))
     if whole is None:
         return {}
     same = {
@@ -38,7 +39,7 @@ def needs(
         if cells is not None and cells == again
     }
     for place, (name, opcodes) in enumerate(_present(source)):
-        less = _beside(liblouis, source, opcodes, folder / f"less{place}.ctb")
+        less = _beside(liblouis, source, opcodes, tried_in(folder, f"less{place}"))
         if less is not None:
             for line, cells, other in zip(lines, theirs, less.ask(lines), strict=True):
                 if line in same and other != cells:

@@ -11,7 +11,6 @@ from collections import Counter
 from collections.abc import Callable, Iterable, Mapping, Sequence
 from dataclasses import dataclass, replace
 from pathlib import Path
-from tempfile import TemporaryDirectory
 from typing import Final
 
 from braildesk.tables import Table, read
@@ -49,6 +48,7 @@ from braildesk.tables.convert.word_list import (
     weigh_less,
 )
 from braildesk.tables.operands import Cells
+from braildesk.workshop import folder_for_a_while
 
 HELD_BACK: Final = 10
 """Each paragraph of so many is held back."""
@@ -149,9 +149,9 @@ def figures(
 def tailor(table: Path, manuscript: Manuscript, means: Means) -> Tailored:
     """Makes a table for a manuscript."""
     source = read_source(table)
-    with Liblouis(table) as liblouis, TemporaryDirectory() as name:
+    with Liblouis(table) as liblouis, folder_for_a_while() as folder:
         subject = read_subject(source, liblouis)
-        return _Tailoring(subject, manuscript, means, Path(name)).run()
+        return _Tailoring(subject, manuscript, means, folder).run()
 
 
 class _Tailoring:
