@@ -1,5 +1,6 @@
 """`scribe history`: who changed what, as far as a book keeps it."""
 
+import sys
 from pathlib import Path
 
 import pytest
@@ -7,7 +8,7 @@ from hypothesis import HealthCheck, given, settings
 from hypothesis import strategies as st
 from tool import Ran, scribe
 
-from braildesk import Refused, Session
+from braildesk import Entry, Kind, Refused, Session
 from braildesk.desk.history import UNKNOWN, steps
 
 
@@ -141,6 +142,26 @@ def test_prints_are_found_again_as_far_as_their_characters_are_known(
     if found:
         last = found[-1]
         assert last.before + last.came + last.after == prints[-1]
+
+
+def test_an_entry_of_a_long_history_takes_few_steps() -> None:
+    now, calls = " x " * 700, 0
+    entries = [
+        Entry(seq, Kind.CORRECT, 3 * seq + 1, 1, "x", None, None)
+        for seq in range(1, 100)
+    ]
+
+    def counted(frame: object, event: str, argument: object) -> None:
+        nonlocal calls
+        calls += event in ("call", "c_call")
+
+    sys.setprofile(counted)
+    try:
+        found = steps(1, now, entries)
+    finally:
+        sys.setprofile(None)
+    assert [(each.came, each.went) for each in found] == [("x", UNKNOWN)] * 99
+    assert calls < len(now) * len(entries) / 10
 
 
 def is_like(found: str, text: str) -> bool:

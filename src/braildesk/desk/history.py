@@ -5,19 +5,20 @@ that stand in the print now, or stood there when a correction was taken back, ar
 of the others nothing is known but their number.
 """
 
+import re
 from collections.abc import Iterator, Sequence
 from dataclasses import dataclass, field
-from itertools import groupby
 from typing import Generic, TypeVar
 
 from braildesk import Entry, Kind, Paragraph, Session
 from braildesk.desk.readings import answers
 from braildesk.protocol.requests import History, Print
-from braildesk.text.excerpt import word_end, word_front
+from braildesk.text.excerpt import NOT_KNOWN, word_end, word_front
 
 #: What stands for characters of which nothing is known.
 UNKNOWN = "…"
-Character = TypeVar("Character")
+_UNKNOWN_RUN = re.compile(f"{NOT_KNOWN}+")
+Characters = TypeVar("Characters", str, list[int | None])
 
 
 @dataclass(frozen=True)
@@ -38,23 +39,22 @@ class Step:
 
 
 @dataclass
-class _Print(Generic[Character]):
+class _Print(Generic[Characters]):
     """The characters of a print, while the entries of its history are gone through."""
 
-    characters: list[Character]
+    characters: Characters
     #: What each correction in force did: where, how many characters came, and which went.
-    _done: list[tuple[int, int, list[Character]]] = field(default_factory=list)
+    _done: list[tuple[int, int, Characters]] = field(default_factory=list)
 
-    def apply(
-        self, entry: Entry, text: list[Character]
-    ) -> tuple[int, int, list[Character]]:
+    def apply(self, entry: Entry, text: Characters) -> tuple[int, int, Characters]:
         """Does what an entry does, and gives where, how many characters came, and which went."""
         if entry.kind is Kind.UNDO:
             start, count, come = self._done.pop()
         else:
             start, count, come = entry.start, entry.count, text
-        gone = self.characters[start : start + count]
-        self.characters[start : start + count] = come
+        now, stop = self.characters, start + count
+        gone = now[start:stop]
+        self.characters = now[:start] + come + now[stop:]
         if entry.kind is not Kind.UNDO:
             self._done.append((start, len(come), gone))
         return start, len(come), gone
@@ -81,11 +81,11 @@ def corrected_by(found: Sequence[Step], who: str) -> list[Step]:
 
 def steps(paragraph: int, now: str, entries: Sequence[Entry]) -> list[Step]:
     """The entries of a history, by which a print came to be what it is now."""
-    print_text = _Print(_first(now, entries))
+    print_text = _Print[str](_first(now, entries))
     return [_step(paragraph, entry, print_text) for entry in entries]
 
 
-def _first(now: str, entries: Sequence[Entry]) -> list[str | None]:
+def _first(now: str, entries: Sequence[Entry]) -> str:
     """The characters with which a print began, as far as they are known."""
     longer: list[int] = []
     for entry in entries:
@@ -94,21 +94,21 @@ def _first(now: str, entries: Sequence[Entry]) -> list[str | None]:
         else:
             longer.append(len(entry.text) - entry.count)
     # each character of the beginning is followed by its place
-    places = _Print[int | None]([*range(len(now) - sum(longer))])
-    first: list[str | None] = [None] * len(places.characters)
+    places = _Print[list[int | None]]([*range(len(now) - sum(longer))])
+    first = [NOT_KNOWN] * len(places.characters)
     for entry in entries:
         places.apply(entry, [None] * len(entry.text))
     for place, character in zip(places.characters, now):
         if place is not None:
             first[place] = character
-    return first
+    return "".join(first)
 
 
-def _step(paragraph: int, entry: Entry, text: _Print[str | None]) -> Step:
-    start, count, gone = text.apply(entry, list(entry.text))
+def _step(paragraph: int, entry: Entry, text: _Print[str]) -> Step:
+    start, count, gone = text.apply(entry, entry.text)
     now, stop = text.characters, start + count
     front, end = word_front(now, start), word_end(now, stop)
-    went = [*now[front:start], *gone, *now[stop:end]]
+    went = now[front:start] + gone + now[stop:end]
     return Step(
         paragraph,
         entry,
@@ -117,17 +117,13 @@ def _step(paragraph: int, entry: Entry, text: _Print[str | None]) -> Step:
         _written(now[end:]),
         _written(went),
         len(went),
-        2 * went.count(None) <= len(went),
+        2 * went.count(NOT_KNOWN) <= len(went),
     )
 
 
-def _written(characters: Sequence[str | None]) -> str:
-    """Characters as a text, with one sign for those beside one another that aren't known."""
-    runs = groupby(characters, lambda each: each is None)
-    return "".join(
-        UNKNOWN if is_unknown else "".join(each for each in run if each is not None)
-        for is_unknown, run in runs
-    )
+def _written(text: str) -> str:
+    """A text with one sign for characters beside one another that aren't known."""
+    return _UNKNOWN_RUN.sub(UNKNOWN, text) if NOT_KNOWN in text else text
 
 
 def newest_corrector(history: Sequence[Entry]) -> str | None:

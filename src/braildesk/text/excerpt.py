@@ -12,8 +12,10 @@ _INDENT = "  "
 #: How much of a text beside the words is worth the rest of a line.
 _BESIDE = 10
 _BRACKETS = len("[]")
-#: What ends a word: a blank, or a character that isn't known.
-_NO_WORD = (*BLANKS, None)
+#: What stands for a character that isn't known: no text has it.
+NOT_KNOWN = "\ud800"
+#: What ends a word.
+_NO_WORD = (*BLANKS, NOT_KNOWN)
 
 
 class Excerpts:
@@ -210,14 +212,14 @@ def _fitting(pieces: list[str], width: int, size_of: Callable[[str], int]) -> li
     return [*pieces[: blank or taken], _CUT]
 
 
-def word_front(text: Sequence[str | None], place: int) -> int:
-    """The front of the word in which a place of a text stands; None is a character that isn't known."""
+def word_front(text: str, place: int) -> int:
+    """The front of the word in which a place of a text stands."""
     while place > 0 and text[place - 1] not in _NO_WORD:
         place -= 1
     return place
 
 
-def word_end(text: Sequence[str | None], place: int) -> int:
+def word_end(text: str, place: int) -> int:
     """The end of the word in which a place stands."""
     while place < len(text) and text[place] not in _NO_WORD:
         place += 1
