@@ -32,10 +32,10 @@ files() {
     echo "644 packaging/braildesk.xml share/mime/packages/braildesk.xml"
 }
 
-# The command scribe with the Python that runs it, which keeps nothing beside its modules and takes none from the folder it is run in or
-# from where the environment says, and the book of the examples.
+# The command scribe with the Python that runs it, which keeps nothing beside its modules, takes none from the folder it is run in or from
+# where the environment says, and leaves the folders of other packages to it, and the book of the examples.
 make_files() {
-    { echo "#!$python -BI"; tail -n +2 bin/scribe; } > "$made/scribe"
+    { echo "#!$python -BIS"; tail -n +2 bin/scribe; } > "$made/scribe"
     "$program" new "$made/moon.braildesk" > /dev/null
     "$program" session "$made/moon.braildesk" < sample/book.txt > /dev/null
 }

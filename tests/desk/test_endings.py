@@ -8,6 +8,7 @@ import signal
 import stat
 import subprocess
 import sys
+import sysconfig
 from pathlib import Path
 
 import pytest
@@ -408,6 +409,30 @@ def test_ctrl_c_ends_scribe_without_a_traceback_from_its_first_line_on(
         [sys.executable, *(words if words[0] == "-m" else script)],
         cwd=tmp_path,
         env=environment(PYTHONPATH=f"{tmp_path}:{ROOT / 'src'}", CTRL_C_AT=module),
+        capture_output=True,
+        text=True,
+    )
+    assert (done.returncode, done.stdout, done.stderr) == (-signal.SIGINT, "", "")
+
+
+def test_ctrl_c_ends_scribe_as_the_folders_of_packages_are_looked_for(
+    tmp_path: Path,
+) -> None:
+    (tmp_path / "bin").mkdir()
+    (tmp_path / "bin" / "python3").symlink_to(sys.executable)
+    home = Path(sys.executable).parent
+    (tmp_path / "pyvenv.cfg").write_text(
+        f"home = {home}\ninclude-system-site-packages = true\n"
+    )
+    packages = Path(sysconfig.get_path("purelib", "venv", {"base": str(tmp_path)}))
+    packages.mkdir(parents=True)
+    # the only code there that Python runs while it begins
+    (packages / "ctrl-c.pth").write_text(
+        "import os, signal; os.kill(os.getpid(), signal.SIGINT)\n"
+    )
+    done = subprocess.run(
+        [ROOT / "bin" / "scribe", "--version"],
+        env=environment(PATH=f"{tmp_path / 'bin'}:{os.environ['PATH']}"),
         capture_output=True,
         text=True,
     )
