@@ -519,6 +519,31 @@ def test_a_folder_in_the_place_of_a_text_that_waits_is_set_aside(
     assert waits and waits.text == "OThe moon is far away."
 
 
+def test_nothing_is_written_over_texts_that_were_left_for_later_and_cannot_be_read(
+    tmp_path: Path, store: Path
+) -> None:
+    book = tmp_path / "moon.braildesk"
+    book.touch()
+    drafts, text = Drafts(book), Draft(Aim.AFTER, 1, "en", "", "The sun")
+    place = drafts.place.with_suffix(".later")
+    found = []
+    for aside in (f"{place.name}.unreadable", f"{place.name}.unreadable-2"):
+        drafts.keep_later([text])
+        place.unlink()
+        place.write_bytes(b"a" * (MOST_BYTES + 1))
+        found.append(place.lstat().st_ino)
+        with pytest.raises(NotKept) as caught:
+            Drafts(book).later()
+        assert not_kept(caught.value) == (
+            f"{place} can't be read as what scribe kept there for the book. It is kept as {aside}."
+            " The book is as it was."
+        )
+        drafts.keep_later([text])
+        assert Drafts(book).later() == (text,)
+        assert (store / aside).lstat().st_ino == found[-1]
+    assert (store / f"{place.name}.unreadable").lstat().st_ino == found[0]
+
+
 def test_a_folder_that_comes_there_while_a_text_is_typed_is_named(
     moon: Path, store: Path, sit: Sit
 ) -> None:

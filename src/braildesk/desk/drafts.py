@@ -11,6 +11,7 @@ from collections.abc import Callable, Mapping, Sequence
 from contextlib import suppress
 from dataclasses import asdict, dataclass
 from enum import Enum
+from itertools import chain, count
 from pathlib import Path
 from typing import TYPE_CHECKING, TypeVar
 
@@ -24,6 +25,7 @@ from braildesk.desk.own_folder import (
     IsFolder,
     OthersFolder,
     OwnFolder,
+    TooLong,
     Unfit,
     bytes_of,
     opened,
@@ -541,7 +543,7 @@ class Drafts:
         try:
             data = self._folder.read(path.name)
             return None if data is None else taken(Record.of(data))
-        except (NotSuch, IsFolder) as cause:
+        except (NotSuch, IsFolder, TooLong) as cause:
             raise NotAsKept(path, self._set_aside(path)) from cause
         except OthersFolder as cause:
             # whether the file is there isn't looked for
@@ -550,8 +552,12 @@ class Drafts:
             raise NotRead(path, cause) from cause
 
     def _set_aside(self, path: Path) -> str | OSError:
-        aside = path.name + ".unreadable"
+        """The name that a file gets, which nothing has that was set aside before; or why it stays."""
+        first = path.name + ".unreadable"
         try:
+            names = self._folder.names()
+            others = (f"{first}-{number}" for number in count(2))
+            aside = next(each for each in chain([first], others) if each not in names)
             self._folder.rename(path.name, aside)
         except OSError as cause:
             return cause

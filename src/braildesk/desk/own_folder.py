@@ -16,7 +16,6 @@ from braildesk.workshop import sync_names
 
 #: The bytes of a file at most.
 MOST_BYTES = 4 * 2**20
-_TOO_LARGE = f"it has more than {MOST_BYTES:,} bytes"
 _READ = os.O_RDONLY | os.O_NOFOLLOW | os.O_NONBLOCK | os.O_NOCTTY | os.O_CLOEXEC
 _FOLDER = os.O_RDONLY | os.O_DIRECTORY | os.O_NOFOLLOW | os.O_CLOEXEC
 # a file in place of a folder has no files
@@ -33,6 +32,13 @@ class Unfit(OSError):
 
 class IsFolder(Unfit):
     """What is there is a folder."""
+
+
+class TooLong(Unfit):
+    """What is there has more bytes than are read of a file."""
+
+    def __init__(self) -> None:
+        super().__init__(f"it has more than {MOST_BYTES:,} bytes")
 
 
 class OthersFolder(Unfit):
@@ -56,7 +62,7 @@ class OwnFolder:
     def write(self, name: str, data: bytes) -> None:
         """Gives a file these bytes, in place of what it had; or leaves it as it was."""
         if len(data) > MOST_BYTES:
-            raise Unfit(_TOO_LARGE)
+            raise TooLong
         if not self.path.is_absolute():
             raise Unfit("no home folder is known")
         _make(self.path)
@@ -132,7 +138,7 @@ def bytes_of(folder: int, name: str) -> bytes:
         _refuse(os.fstat(file.fileno()))
         data = file.read(MOST_BYTES + 1)
     if len(data) > MOST_BYTES:
-        raise Unfit(_TOO_LARGE)
+        raise TooLong
     return data
 
 
@@ -148,7 +154,7 @@ def _refuse(found: os.stat_result) -> None:
     if found.st_nlink > 1:
         raise Unfit("it has another name too")
     if found.st_size > MOST_BYTES:
-        raise Unfit(_TOO_LARGE)
+        raise TooLong
 
 
 def _make(path: Path) -> None:
