@@ -306,6 +306,18 @@ def test_a_table_that_liblouis_refuses_is_refused(tmp_path: Path) -> None:
     assert refused(tmp_path, "bad.utb") == "liblouis refuses the table bad.utb."
 
 
+@pytest.mark.parametrize("name", ["a,b.utb", "de,fr/small.utb"])
+def test_a_table_whose_path_liblouis_takes_for_two_is_not_said_to_be_refused(
+    tmp_path: Path, name: str
+) -> None:
+    (tmp_path / name).parent.mkdir(exist_ok=True)
+    (tmp_path / name).write_text(SMALL)
+    assert refused(tmp_path, name) == (
+        f"liblouis can't be asked about {name}: it takes a comma for the end of a name. Give the file,"
+        " or its folder, a name without a comma."
+    )
+
+
 def test_too_few_words_are_refused(tmp_path: Path) -> None:
     (tmp_path / "words").write_text("ax\nqz\nbook\n")
     said = refused(tmp_path, small(tmp_path), "--words", "words")

@@ -145,6 +145,11 @@ class _Process:
 
     def read(self, table: Path) -> str:
         """Has liblouis read a table, and says the version of liblouis."""
+        if "," in str(table):
+            raise NoLiblouis(
+                f"liblouis can't be asked about {table}: it takes a comma for the end of a name. Give the"
+                " file, or its folder, a name without a comma."
+            )
         try:
             self._send({"table": str(table)})
             answer = self._answer(FIRST_SECONDS)
