@@ -168,9 +168,16 @@ def folder_for_a_while() -> Iterator[Path]:
         yield made.parent
 
 
-def tried_in(folder: Path, name: str) -> Path:
-    """Where a file is made that is only tried in a folder."""
-    return folder / f"{name}{_TRIED}"
+def write_tried(folder: Path, name: str, text: str) -> Path:
+    """Writes a file that is only tried in a folder. Which one it is, is said of it in any failure."""
+    path = folder / f"{name}{_TRIED}"
+    try:
+        path.write_text(text, encoding="utf-8", newline="\n")
+    except OSError as error:
+        # the system names none that there is no room for
+        error.filename = str(path)
+        raise
+    return path
 
 
 @contextmanager

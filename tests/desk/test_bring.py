@@ -2,6 +2,7 @@
 
 import os
 import re
+import resource
 import signal
 from collections.abc import Mapping
 from concurrent.futures import ThreadPoolExecutor
@@ -251,6 +252,19 @@ def test_a_table_replaces_one_that_was_brought_and_no_other_file_unless_that_is_
         tmp_path, "small.utb", "out.utb"
     )
     assert (tmp_path / "out.utb").read_text() == its
+
+
+def test_a_temporary_folder_that_takes_no_table_is_named(tmp_path: Path) -> None:
+    def limit() -> None:
+        # as a disk that is nearly full
+        resource.setrlimit(resource.RLIMIT_FSIZE, (100, 100))
+
+    words = ("bring", small(tmp_path), "out.utb")
+    ran = scribe(*words, folder=tmp_path, before=limit, TMPDIR=str(tmp_path))
+    assert (ran.status, ran.shown) == (3, "")
+    said = "“{}/.braildesk-[^/]*/draft.tried” could not be read or written: File too large.\n"
+    assert re.fullmatch(said.format(tmp_path), ran.said)
+    assert {each.name for each in tmp_path.iterdir()} == {"small.utb"}
 
 
 def test_what_a_killed_bring_left_is_cleared_away_by_the_next_one(

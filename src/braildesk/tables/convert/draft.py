@@ -15,7 +15,7 @@ from braildesk.refusals import Refused
 from braildesk.tables.convert.operands import MOST_CELLS, write_characters, write_dots
 from braildesk.tables.operands import Cells
 from braildesk.text.characters import visible
-from braildesk.workshop import tried_in
+from braildesk.workshop import write_tried
 
 MOST_LINES: Final = 20_000
 MOST_CHARACTERS: Final = 60
@@ -192,12 +192,11 @@ class ProgramTrial:
     """Drafts as the program translates by them. Nothing here stands in for the program."""
 
     def __init__(self, folder: Path) -> None:
-        self._file = tried_in(folder, "draft")
+        self._folder = folder
 
     def cells(self, draft: TableDraft, lines: Sequence[str]) -> list[Cells | None]:
         """The cells of each line, or None if the draft lacks a character."""
-        self._file.write_text(draft.text(), encoding="utf-8", newline="\n")
-        return cells_by(self._file, lines)
+        return cells_by(write_tried(self._folder, "draft", draft.text()), lines)
 
 
 def cells_by(table: Path | Table, lines: Sequence[str]) -> list[Cells | None]:

@@ -11,7 +11,7 @@ from typing import Final
 
 from braildesk.tables.convert.oracle import Liblouis, NoLiblouis
 from braildesk.tables.convert.source import Source
-from braildesk.workshop import tried_in
+from braildesk.workshop import write_tried
 
 LEFT_OUT: Final[Mapping[str, tuple[str, ...]]] = {
     "passages of capitals": ("begcapsphrase", "endcapsphrase", "lencapsphrase"),
@@ -30,7 +30,7 @@ def needs(
         return {}
     found: dict[str, str] = {}
     theirs = liblouis.ask(lines)
-    whole = _beside(liblouis, source, (), tried_in(folder, "whole"))
+    whole = _beside(liblouis, source, (), folder, "whole")
     if whole is None:
         return {}
     same = {
@@ -39,7 +39,7 @@ def needs(
         if cells is not None and cells == again
     }
     for place, (name, opcodes) in enumerate(_present(source)):
-        less = _beside(liblouis, source, opcodes, tried_in(folder, f"less{place}"))
+        less = _beside(liblouis, source, opcodes, folder, f"less{place}")
         if less is not None:
             for line, cells, other in zip(lines, theirs, less.ask(lines), strict=True):
                 if line in same and other != cells:
@@ -55,10 +55,14 @@ def _present(source: Source) -> Iterator[tuple[str, tuple[str, ...]]]:
 
 
 def _beside(
-    liblouis: Liblouis, source: Source, without: tuple[str, ...], path: Path
+    liblouis: Liblouis,
+    source: Source,
+    without: tuple[str, ...],
+    folder: Path,
+    name: str,
 ) -> Liblouis | None:
     """The table in one file without these opcodes, or None if liblouis refuses that."""
-    path.write_text(text_without(source, without), encoding="utf-8", newline="\n")
+    path = write_tried(folder, name, text_without(source, without))
     try:
         return liblouis.beside(path)
     except NoLiblouis:
