@@ -94,8 +94,8 @@ def _is_of_another(descriptor: int) -> bool:
         return False
 
 
-def open_file(path: StrPath) -> BinaryIO:
-    """A file, open for reading; ``NoFile`` if it is none."""
+def open_file(path: StrPath, more: int = 0) -> BinaryIO:
+    """A file, open for reading, as more flags may say; ``NoFile`` if it is none."""
     if "\0" in fspath(path):
         raise NoFile("no path has the character U+0000")
     number = _descriptor(path)
@@ -104,7 +104,7 @@ def open_file(path: StrPath) -> BinaryIO:
         missing = errno.ENOENT
         raise FileNotFoundError(missing, os.strerror(missing), fspath(path))
     _judge(os.stat(path).st_mode, path)
-    descriptor = os.open(path, _READ)
+    descriptor = os.open(path, _READ | more)
     try:
         # what has been put there in this moment
         _judge(os.fstat(descriptor).st_mode, path)
@@ -120,19 +120,37 @@ def read_file(path: StrPath, most: int) -> bytes:
     ``Changing`` if another program writes into the file meanwhile.
     """
     with open(path, "rb") if is_handed_over(path) else open_file(path) as file:
-        if file.isatty():
-            # its keys may be those of a screen, on which nothing ends a text
-            raise _named(NoFile("it is a terminal and no file"), path)
-        before = _state(file)
-        size, _ = before
-        data: bytes | None = file.read(most + 1) if size <= most else b""
-        if data is None:
-            # as of what the system says in a file, while it has nothing to say
-            raise _named(NoFile("it would have to be waited for, as a device"), path)
-        if max(size, len(data)) > most:
-            raise _named(TooLarge(most), path)
-        if not is_handed_over(path) and _is_changed(file, before, data):
+        return _read(file, path, most)
+
+
+def read_file_there(path: StrPath, most: int) -> bytes:
+    """The bytes of the file that has a name itself, and not of one to which a link there leads.
+
+    ``Changing`` if the name is that of another one once they are read.
+    """
+    with open_file(path, os.O_NOFOLLOW) as file:
+        data = _read(file, path, most)
+        found = os.stat(path, follow_symlinks=False)
+        if not os.path.samestat(found, os.fstat(file.fileno())):
             raise _named(Changing(), path)
+    return data
+
+
+def _read(file: BinaryIO, path: StrPath, most: int) -> bytes:
+    """The bytes of an open file."""
+    if file.isatty():
+        # its keys may be those of a screen, on which nothing ends a text
+        raise _named(NoFile("it is a terminal and no file"), path)
+    before = _state(file)
+    size, _ = before
+    data: bytes | None = file.read(most + 1) if size <= most else b""
+    if data is None:
+        # as of what the system says in a file, while it has nothing to say
+        raise _named(NoFile("it would have to be waited for, as a device"), path)
+    if max(size, len(data)) > most:
+        raise _named(TooLarge(most), path)
+    if not is_handed_over(path) and _is_changed(file, before, data):
+        raise _named(Changing(), path)
     return data
 
 

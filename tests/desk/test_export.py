@@ -402,6 +402,42 @@ def test_nothing_that_a_stranger_puts_in_a_shared_folder_is_written_to(
     os.close(held)
 
 
+@NEEDS_ROOT
+@pytest.mark.parametrize("is_open", [False, True])
+def test_pages_that_a_stranger_swaps_as_they_are_compared_are_not_said_to_be_unchanged(
+    moon: Path, monkeypatch: pytest.MonkeyPatch, is_open: bool
+) -> None:
+    assert scribe("export", moon, "out", folder=moon.parent).status == 0
+    file, private = moon.with_name("out") / "moon-1.brf", moon.with_name("private")
+    shutil.copyfile(file, private)
+    if not is_open:
+        file.write_bytes(b"older")
+    file.parent.chmod(0o777)
+    lead_to(file.parent)
+    opened, left = os.open, [True]
+
+    def swap() -> None:
+        file.unlink()
+        file.symlink_to(private)
+
+    def swapped(path: Any, *words: Any, **more: Any) -> int:
+        is_first = path == file and bool(left) and left.pop()
+        if is_first and not is_open:
+            assert as_stranger(swap) == ""
+        found = opened(path, *words, **more)
+        if is_first and is_open:
+            assert as_stranger(swap) == ""
+        return found
+
+    monkeypatch.setattr(os, "open", swapped)
+    job = export.Job(moon, file.parent, PageSize(), 0, has_changed_pages=True)
+    (written,) = export.Export(job).run()
+    assert isinstance(written, export.Written) and not left
+    assert (written.differences, written.changed_file) == (None, None)
+    assert file.read_bytes() == private.read_bytes()
+    assert not file.is_symlink()
+
+
 def test_an_export_opens_no_pipe_of_a_volumes_name(moon: Path) -> None:
     out = moon.with_name("out")
     out.mkdir()

@@ -14,7 +14,7 @@ from braildesk.desk.layout import PageSize
 from braildesk.desk.ranges import PageRange
 from braildesk.desk.whole_file import Access, write_whole
 from braildesk.held import is_at_path, open_file
-from braildesk.named_files import read_file
+from braildesk.named_files import read_file_there
 from braildesk.protocol.asked import BookFile
 
 # how often the volumes are read until all are of one version
@@ -418,9 +418,9 @@ def _parted(pages: bytes) -> list[bytes]:
 
 
 def _read(file: Path) -> bytes | None:
-    """The bytes of an older file; none if it is no file, or can't be read."""
+    """The bytes of an older file; none if it is no file, can't be read, or isn't there any more."""
     try:
-        return None if file.is_symlink() else read_file(file, MOST_BYTES)
+        return read_file_there(file, MOST_BYTES)
     except OSError:
         return None
 
@@ -450,6 +450,6 @@ def _cells_with_dots(line: bytes) -> int:
 
 def _has(file: Path, pages: bytes) -> bool:
     try:
-        return not file.is_symlink() and read_file(file, len(pages)) == pages
+        return read_file_there(file, len(pages)) == pages
     except OSError:
         return False
