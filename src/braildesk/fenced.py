@@ -43,7 +43,7 @@ def started(asked: AskedOfFile, start: Callable[[], Popen[bytes]]) -> Popen[byte
     ``start`` is called in another thread where somebody else may put something in the place of the
     book. What it starts can't be made to end with the thread that started it.
     """
-    if isinstance(asked, TableFile) or not _may_be_replaced(asked):
+    if isinstance(asked, TableFile) or not may_be_replaced(asked):
         return start()
     fence = _fence(asked)
     return start() if fence is None else _started_within(fence, start)
@@ -54,7 +54,7 @@ def is_known() -> bool:
     return _version(_library()) > 0
 
 
-def _may_be_replaced(asked: AskedOfFile) -> bool:
+def may_be_replaced(asked: AskedOfFile) -> bool:
     """Whether another user may put something in the place of a file, or of a folder on the way to it."""
     try:
         real = asked.real

@@ -16,6 +16,7 @@ from braildesk import Session
 import braildesk
 from braildesk.desk import export
 from braildesk.desk.layout import PageSize
+from braildesk.desk.ranges import PageRange
 
 from scribe.words.console import Console
 from scribe.words.export import export_in_words, numbers_in_words
@@ -480,6 +481,46 @@ def test_whatever_stands_at_the_path_by_then_volumes_are_for_those_of_the_book_t
     monkeypatch.setattr(made, "make_folder", swap)
     assert len(list(made.run())) == 1
     assert stat.S_IMODE(made.job.file(1).stat().st_mode) == 0o600
+
+
+@NEEDS_ROOT
+@pytest.mark.parametrize("is_whole", [True, False])
+def test_pages_of_a_book_that_strangers_swap_as_it_is_read_are_for_nobody_else(
+    moon: Path, monkeypatch: pytest.MonkeyPatch, is_whole: bool
+) -> None:
+    shared = moon.with_name("shared")
+    shared.mkdir()
+    shared.chmod(0o777)
+    lead_to(shared)
+    public, private, kept = (shared / each for each in ("book", "private", "kept"))
+    for book, mode in ((public, 0o644), (private, 0o600)):
+        shutil.copyfile(moon, book)
+        book.chmod(mode)
+        with Session(book) as session:
+            session.correct(1, 0, 3, "Our" if book is private else "One")
+    read = braildesk.export
+
+    def renamed(*names: tuple[Path, Path]) -> None:
+        for name, other in names:
+            name.rename(other)
+
+    def swapped(*words: Any, **more: Any) -> bytes:
+        assert as_stranger(lambda: renamed((public, kept), (private, public))) == ""
+        try:
+            return read(*words, **more)
+        finally:
+            assert as_stranger(lambda: renamed((public, private), (kept, public))) == ""
+
+    monkeypatch.setattr(export, "export", swapped)
+    job = export.Job(public, moon.with_name("out"), PageSize(), 0)
+    if is_whole:
+        assert len(list(export.Export(job).run())) == 1
+    else:
+        export.export_pages(job, 1, [PageRange(1, 1)])
+    (file,) = job.folder.iterdir()
+    is_private = b",OUR" in file.read_bytes()
+    is_for_all = file.stat().st_mode & 0o004 != 0
+    assert (is_private, is_for_all) in ((True, False), (False, True))
 
 
 def test_a_book_that_is_another_one_whenever_it_was_read_is_not_exported(

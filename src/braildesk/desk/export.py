@@ -4,7 +4,8 @@ import os
 import re
 from collections.abc import Callable, Iterable, Iterator, Sequence
 from contextlib import contextmanager, suppress
-from dataclasses import dataclass
+from dataclasses import dataclass, replace
+from functools import partial
 from pathlib import Path
 from typing import TypeVar
 
@@ -13,8 +14,10 @@ from braildesk.desk import Problem
 from braildesk.desk.layout import PageSize
 from braildesk.desk.ranges import PageRange
 from braildesk.desk.whole_file import Access, write_whole
-from braildesk.held import is_at_path, open_file
+from braildesk.fenced import may_be_replaced
+from braildesk.held import held, is_at_path, open_file
 from braildesk.named_files import read_file_there
+from braildesk.opening import waited
 from braildesk.protocol.asked import BookFile
 
 # how often the volumes are read until all are of one version
@@ -236,7 +239,9 @@ class Export:
 
         Raises `BookChanges`, `NoFolder` and `NotWritten`, and what the client raises of the book.
         """
-        self._volumes, self._access = _with_access(self.job, self._of_one_version)
+        with _apart(self.job) as job:
+            read = partial(self._of_one_version, job)
+            self._volumes, self._access = _with_access(job, read)
         with self.made_folder():
             for volume, pages in enumerate(self._volumes, 1):
                 self._check()
@@ -272,24 +277,23 @@ class Export:
         pairs = enumerate(self._volumes, 1)
         return {number: each for number, each in pairs if isinstance(each, bytes)}
 
-    def _of_one_version(self) -> list[bytes | Refused]:
+    def _of_one_version(self, job: Job) -> list[bytes | Refused]:
         """The pages of each volume, or why it is refused, all read while the book was at one version."""
-        job = self.job
         version = _version(job, self._check)
         for _ in range(TRIES):
-            volumes = list(self._read())
+            volumes = list(self._read(job))
             before, version = version, _version(job, self._check)
             if before == version:
                 return volumes
         raise BookChanges(version[0], job.folder)
 
-    def _read(self) -> Iterator[bytes | Refused]:
+    def _read(self, job: Job) -> Iterator[bytes | Refused]:
         """The pages of each volume, or why it is refused."""
         volume = 1
         while True:
             self._check()
             try:
-                yield _pages_of(self.job, volume, self._check)
+                yield _pages_of(job, volume, self._check)
             except NotFound:
                 return
             except Refused as refused:
@@ -368,11 +372,12 @@ def export_pages(
     Without a volume they are those of the only one. Raises `WhichVolume`, `NoPage`, `NoFolder` and
     `NotWritten`, and what the client raises of the book.
     """
-    number = _only_volume(job) if volume is None else volume
-    try:
-        read, access = _with_access(job, lambda: _pages_of(job, number))
-    except NotFound as missing:
-        raise WhichVolume(number) from missing
+    with _apart(job) as its:
+        number = _only_volume(its) if volume is None else volume
+        try:
+            read, access = _with_access(its, lambda: _pages_of(its, number))
+        except NotFound as missing:
+            raise WhichVolume(number) from missing
     pages = _parted(read)
     found = b"".join(page for each in wanted for page in each.of(number, pages))
     name = ",".join(each.name for each in wanted)
@@ -381,6 +386,29 @@ def export_pages(
     with made.made_folder():
         made.write(number, file, found, access)
     return WrittenPages(number, file, len(_parted(found)))
+
+
+@contextmanager
+def _apart(job: Job) -> Iterator[Job]:
+    """A job that reads a copy, where others may put another book in the place of its own meanwhile.
+
+    Else the pages of that one might get the access of this. A book that is open isn't copied.
+    """
+    book = BookFile.of(job.book)
+    if job.copy is not None or not may_be_replaced(book):
+        yield job
+        return
+    # imported here, since most books lie in a folder of their own user
+    from braildesk.snapshot import copied
+
+    waited(partial(_judge_closed, book), job.wait)
+    with copied(job.book) as copy:
+        yield replace(job, copy=copy)
+
+
+def _judge_closed(book: BookFile) -> None:
+    with held(book):
+        pass
 
 
 def _with_access(job: Job, read: Callable[[], _Found]) -> tuple[_Found, Access]:
