@@ -169,8 +169,7 @@ def test_a_file_of_another_person_gives_nothing_to_the_one_that_replaces_it(
     "owner, folder, may_rename",
     [
         *((STRANGER, 0o755, True), (STRANGER, 0o1777, True), (0, 0o777, True)),
-        *((0, 0o1777, False), (0, 0o3775, False), (0, 0o755, False)),
-        (0, 0o2775, True),
+        *((0, 0o2775, True), (0, 0o755, False)),
     ],
 )
 def test_a_file_to_which_a_stranger_may_give_the_name_keeps_no_more_than_a_new_one_gets(
@@ -194,6 +193,25 @@ def test_a_file_to_which_a_stranger_may_give_the_name_keeps_no_more_than_a_new_o
         0o600 if may_rename else 0o644,
     )
     assert os.listdir(out) == ["pages.brf"]
+
+
+@NEEDS_ROOT
+@pytest.mark.parametrize("folder", [0o1777, 0o3775])
+def test_a_file_that_a_stranger_brings_from_elsewhere_keeps_no_more_than_a_new_one_gets(
+    tmp_path: Path, folder: int
+) -> None:
+    out, shared = tmp_path / "out", tmp_path / "shared"
+    for each, allowed in ((out, folder), (shared, 0o777)):
+        each.mkdir()
+        os.chown(each, -1, STRANGER)
+        each.chmod(allowed)
+    lead_to(tmp_path)
+    public, pages = shared / "public.brf", out / "pages.brf"
+    public.write_bytes(b"for all")
+    public.chmod(0o644)
+    assert as_stranger(lambda: public.rename(pages)) == ""
+    write_whole(pages, b"private", Access(0o600, os.getegid()))
+    assert (pages.read_bytes(), mode(pages)) == (b"private", 0o600)
 
 
 @NEEDS_ROOT

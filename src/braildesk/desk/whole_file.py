@@ -331,11 +331,13 @@ def _write(
 
 
 def _is_others(folder: int) -> bool:
-    """Whether others may give the name of one file in a folder to another that lies there."""
+    """Whether others may give a name in a folder to a file of this user.
+
+    It may lie in another folder, so that the sticky bit of this one keeps nobody from that.
+    """
     found = os.fstat(folder)
     is_open = found.st_mode & (stat.S_IWGRP | stat.S_IWOTH) != 0
-    is_kept = found.st_mode & stat.S_ISVTX != 0
-    return is_open and not is_kept or found.st_uid not in (0, os.geteuid())
+    return is_open or found.st_uid not in (0, os.geteuid())
 
 
 def _made(name: str, folder: int, mode: int) -> int:
