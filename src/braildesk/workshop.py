@@ -21,7 +21,9 @@ from braildesk.protocol.value import Value
 _PREFIX = ".braildesk-"
 #: The file that is made, what is put beside it by the program and by SQLite when it reads what
 #: stands in a log, and how the names of files end that are only tried. Nothing else is cleared away.
-_MADE = "book"
+#: Nobody gives a book the first name, since others may rename a folder of this user as if one had been
+#: made in it.
+_MADE = "made-by-braildesk"
 _NAMES = frozenset({_MADE, f"{_MADE}-wal", f"{_MADE}-shm"})
 _TRIED = ".tried"
 #: The number by which `renameat2` replaces nothing.

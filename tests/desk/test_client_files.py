@@ -478,7 +478,7 @@ def swap(folder: Path, private: Path) -> None:
     (making,) = folder.glob(".braildesk-*")
     making.rename(folder / "moved")
     making.mkdir()
-    (making / "book").symlink_to(private)
+    (making / workshop._MADE).symlink_to(private)
 
 
 @pytest.mark.parametrize("replaces", [False, True])
@@ -624,6 +624,24 @@ def test_a_link_in_place_of_a_new_book_gets_no_name(
         " something else in the place of what was made."
     )
     assert (os.path.lexists(to), private.read_text()) == (False, "mine")
+
+
+@NEEDS_ROOT
+def test_a_book_in_a_folder_that_a_stranger_renames_is_not_taken_for_what_was_left(
+    tmp_path: Path,
+) -> None:
+    shared = tmp_path / "shared"
+    shared.mkdir()
+    shared.chmod(0o777)
+    lead_to(shared)
+    mine, renamed = shared / "mine", shared / ".braildesk-mine"
+    mine.mkdir(mode=0o700)
+    for name in ("book", "book-wal"):
+        (mine / name).write_bytes(b"work")
+    assert as_stranger(lambda: mine.rename(renamed)) == ""
+    with workshop.made_beside(str(shared / "new")):
+        pass
+    assert names(renamed) == {"book", "book-wal"}
 
 
 @pytest.mark.parametrize("is_copy", [True, False])
@@ -968,11 +986,11 @@ def test_what_a_killed_copy_left_is_cleared_away_by_the_next_one(
     assert len(left) == 1 and left != {"first"}
     mine = tmp_path / f"{left.pop()}-mine"
     mine.mkdir()
-    (mine / "book").write_text("of my own")
+    (mine / workshop._MADE).write_text("of my own")
     (mine / "notes").write_text("of my own")
     assert braildesk.copy(book, tmp_path / "second") == 1
     assert names(tmp_path) == {book.name, "killer", "second", mine.name}
-    assert names(mine) == {"book", "notes"}
+    assert names(mine) == {workshop._MADE, "notes"}
 
 
 def test_nothing_is_left_beside_a_copy_where_who_reads_a_folder_on_is_shown_no_new_file(
@@ -1938,14 +1956,15 @@ def test_a_folder_put_in_place_of_the_one_of_a_copy_leads_the_program_nowhere(
         folder.mkdir()
     shared.chmod(0o777)
     lead_to(shared)
-    (other / "book").touch()
+    made = other / workshop._MADE
+    made.touch()
     with swapped(tmp_path, lambda: next(shared.glob(".b*")), other) as program:
         with pytest.raises(DeskError) as failed:
             braildesk.copy(book, shared / "copy", program=program)
     assert failed.value.sentence.endswith(
         "another program put something else in the place of what was made."
     )
-    assert (other / "book").read_bytes() == b"" and names(other) == {"book"}
+    assert made.read_bytes() == b"" and names(other) == {made.name}
     assert not (shared / "copy").exists()
 
 
