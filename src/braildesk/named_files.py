@@ -10,6 +10,7 @@ import fcntl
 import os
 import re
 import stat
+from collections.abc import Iterator
 from os import PathLike, fspath
 from typing import BinaryIO, Self
 
@@ -134,6 +135,20 @@ def read_file_there(path: StrPath, most: int) -> bytes:
         if not os.path.samestat(found, os.fstat(file.fileno())):
             raise _named(Changing(), path)
     return data
+
+
+def data_in(file: int) -> Iterator[tuple[int, int]]:
+    """Where the parts of a file begin and end that are no holes."""
+    size, stop = os.fstat(file).st_size, 0
+    while stop < size:
+        try:
+            place = os.lseek(file, stop, os.SEEK_DATA)
+        except OSError as error:
+            if error.errno == errno.ENXIO:
+                break
+            raise
+        stop = os.lseek(file, place, os.SEEK_HOLE)
+        yield place, stop
 
 
 def _read(file: BinaryIO, path: StrPath, most: int) -> bytes:

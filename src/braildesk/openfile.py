@@ -423,12 +423,14 @@ def _last_page(log: int, before: _LogState | None) -> tuple[int, int]:
     front = os.pread(log, _FRONT, 0)
     if len(front) < _FRONT:
         return 0, 0
-    # each page has the number of the log before it
+    # each page has its own number, which isn't 0, and that of the log before it
     number, step = front[16:24], _BEFORE_PAGE + int.from_bytes(front[8:12], "big")
     last, place, commits = 0, _FRONT, 0
     if before is not None and before.last:
         last, place = before.last, before.last + step
     while (page := os.pread(log, _BEFORE_PAGE, place))[8:16] == number:
+        if page[:4] == bytes(4):
+            break
         last, place = place, place + step
         # the last page of each has the size of the file
         commits += page[4:8] != bytes(4)

@@ -15,7 +15,7 @@ from types import MappingProxyType
 from typing import BinaryIO, TypeVar
 from urllib.parse import quote
 
-from braildesk.named_files import open_file
+from braildesk.named_files import data_in, open_file
 from braildesk.protocol.asked import (
     AskedOfFile,
     NewBook,
@@ -31,9 +31,9 @@ from braildesk.text import limits
 
 #: The bytes of a log up to the first page in it: its own header, and that of the page.
 _BEFORE_PAGE = 32 + 24
-#: What is read of those: how long a page is, and whether a change ends with it; and what is in both if
-#: the page is one of the log's.
-_LOG, _PAGE = struct.Struct(">8xI4x8s8x"), struct.Struct(">4xI8s8x")
+#: What is read of those: how long a page is; which one it is, and whether a change ends with it; and
+#: what is in both if the page is one of the log's.
+_LOG, _PAGE = struct.Struct(">8xI4x8s8x"), struct.Struct(">II8s8x")
 #: A page has no fewer bytes.
 _SMALLEST_PAGE = 512
 #: What the file of every book begins with.
@@ -353,8 +353,11 @@ def changes_in(log: str) -> int:
         while (
             size >= _SMALLEST_PAGE and len(head := file.read(_PAGE.size)) == _PAGE.size
         ):
-            ends, of = _PAGE.unpack(head)
-            count += ends > 0 and of == salt
+            number, ends, of = _PAGE.unpack(head)
+            if not number or of != salt:
+                # nobody reads on there, and what comes may be holes without end
+                break
+            count += ends > 0
             file.seek(size, os.SEEK_CUR)
         return count
 
@@ -561,9 +564,10 @@ def _has_long_value(
 
 
 def _size(path: str | PathLike[str]) -> int:
-    """The bytes of a file, none if it isn't there."""
+    """The bytes of a file without its holes, which have no row; none if it isn't there."""
     try:
-        return os.path.getsize(path)
+        with open_file(path) as file:
+            return sum(stop - place for place, stop in data_in(file.fileno()))
     except OSError:
         return 0
 

@@ -16,6 +16,7 @@ from dataclasses import dataclass
 from pathlib import Path
 from typing import BinaryIO, Self
 
+from braildesk.named_files import data_in
 from braildesk.protocol.value import Value
 
 _PREFIX = ".braildesk-"
@@ -468,15 +469,7 @@ def copy_bytes(source: int, target: int) -> None:
     Who keeps it has to have it on the disk.
     """
     size = os.fstat(source).st_size
-    place = 0
-    while place < size:
-        try:
-            place = os.lseek(source, place, os.SEEK_DATA)
-        except OSError as error:
-            if error.errno == errno.ENXIO:
-                break
-            raise
-        stop = os.lseek(source, place, os.SEEK_HOLE)
+    for place, stop in data_in(source):
         while place < stop and (
             data := os.pread(source, min(_CHUNK, stop - place), place)
         ):

@@ -180,6 +180,28 @@ def repeat_pages(book: Path, table: str, levels: int) -> None:
     book.write_bytes(data)
 
 
+def put_holed_log(book: Path) -> None:
+    """Puts a log beside a book that has one page of its own, and then holes without end."""
+    page = struct.pack(">II16x", 1, 1)
+    with open(f"{book}-wal", "wb") as log:
+        log.write(struct.pack(">IIII16x", 0x377F0682, 3_007_000, 512, 0) + page)
+        log.truncate(1 << 40)
+
+
+def test_the_pages_of_a_log_are_counted_up_to_its_holes(tmp_path: Path) -> None:
+    put_holed_log(tmp_path / "book")
+    assert opening.changes_in(str(tmp_path / "book-wal")) == 1
+
+
+@pytest.mark.parametrize("is_endless", [False, True])
+def test_holes_in_a_log_are_not_read_for_ever(full: Path, is_endless: bool) -> None:
+    if is_endless:
+        repeat_pages(full, "mark", 5)
+    put_holed_log(full)
+    ran = scribe("list", full.name, folder=full.parent, before=in_time)
+    assert ran.status == (2 if is_endless else 0)
+
+
 def page_above(child: int, size: int) -> bytes:
     """A page of a table's tree that has 300 times the same page below it."""
     cells = [struct.pack(">IBB", child, 0x81, number & 0x7F) for number in range(300)]
