@@ -133,6 +133,18 @@ def test_help_names_all_commands(tmp_path: Path) -> None:
     assert all(name in listed for name in ALL)
 
 
+@pytest.mark.parametrize("name, key", [("edit", "U"), ("window", "Ctrl+B")])
+def test_help_says_which_of_several_texts_is_offered_at_the_next_opening(
+    name: str, key: str, tmp_path: Path
+) -> None:
+    ran = scribe(name, "--help", folder=tmp_path)
+    said = " ".join(ran.shown.split())
+    assert (
+        "is offered at the next opening; of several texts the newest is, and"
+        f" {key} asks about the others."
+    ) in said
+
+
 def test_the_version_is_shown(tmp_path: Path) -> None:
     version = braildesk.__version__
     ran = scribe("--version", folder=tmp_path)

@@ -32,7 +32,8 @@ MORE = """\
 The paragraphs are listed, and of the chosen one the print and the braille are shown. The
 arrow keys move, Enter edits the print, ? shows the keys, q ends. What is said to be kept
 is in the book. Text that isn't in the book yet is kept in ~/.local/state/braildesk, and is
-offered at the next opening. NO_COLOR is obeyed: there are no colours."""
+offered at the next opening; of several texts the newest is, and U asks about the others.
+NO_COLOR is obeyed: there are no colours."""
 EXAMPLE = "scribe edit moon.braildesk --by anna"
 
 

@@ -19,7 +19,8 @@ MORE = """\
 The paragraphs are a table, and of the chosen one the print and the braille are shown, each
 with a caret that goes with the other's. What is typed is kept by Enter, or when another
 paragraph is chosen; each action stands in a menu with its key, and F1 lists them all. Text
-that wasn't sent is kept in ~/.local/state/braildesk, and is offered at the next opening."""
+that wasn't sent is kept in ~/.local/state/braildesk, and is offered at the next opening; of
+several texts the newest is, and Ctrl+B asks about the others."""
 EXAMPLE = "scribe window moon.braildesk --by anna"
 # where the environment says which screen there is, or what stands for one
 _SCREENS = ("DISPLAY", "WAYLAND_DISPLAY", "QT_QPA_PLATFORM")
