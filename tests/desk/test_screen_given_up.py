@@ -198,9 +198,10 @@ def test_what_a_mark_goes_on_is_said_where_its_note_is_typed_further(
         "enter",
         "U",
     )
-    assert "The print there has been changed since." in asked(sat)
+    changed = "The print there has been changed since. The note was for “far”."
+    assert changed in asked(sat)
     sat.press("y")
-    assert sat.state.heard == "On “e h”. The print there has been changed since."
+    assert sat.state.heard == f"On “e h”. {changed}"
     sat.state = sat.desk.resized(sat.state, Size(40, 2))
     # where it will be is seen first
     words = "On “e h”. The print there has been…"
@@ -250,9 +251,10 @@ def test_that_the_words_of_a_note_that_waits_were_changed_is_said(
     with Session(moon) as session:
         session.correct(1, session.print_of(1).index("far"), 3, new)
     again = sit(moon)
-    assert "The print there has been changed since." in asked(again)
+    changed = " The print there has been changed since. The note was for “far”."
+    assert changed in asked(again)
     again.press("y")
-    assert again.state.heard.endswith(" The print there has been changed since.")
+    assert again.state.heard.endswith(changed)
 
 
 def test_a_note_that_waits_is_not_taken_for_a_mark_on_other_words(
