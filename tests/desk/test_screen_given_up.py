@@ -16,6 +16,7 @@ from scribe.screen.drawing import draw
 from scribe.screen.state import Size
 from sitting import Sat, Sit
 from stand_in import KEPT, KILL_PROGRAM
+from strangers import NEEDS_ROOT, STRANGER
 from terminal import Open, standing_in
 
 LONG = "Twice a day the sea comes up, and twice it goes down again."
@@ -46,6 +47,17 @@ def test_what_escape_gives_up_comes_back_by_a_key(moon: Path, sit: Sit) -> None:
     sat.press("y", "enter")
     assert sat.state.kept == "kept: paragraph 4"
     assert [each.id for each in sat.state.book] == [1, 4, 2, 3]
+
+
+@NEEDS_ROOT
+def test_of_a_folder_of_another_user_it_is_said_once_that_it_can_not_be_read(
+    moon: Path, sit: Sit, state_home: Path
+) -> None:
+    folder = state_home / "braildesk"
+    folder.mkdir()
+    os.chown(folder, STRANGER, STRANGER)
+    sat = sit(moon)
+    assert sat.state.message == f"{folder} can't be read: it belongs to another user."
 
 
 @pytest.mark.parametrize("keys", [["n"], ["escape"], ["U", "n"], ["U", "U", "n"]])

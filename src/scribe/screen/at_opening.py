@@ -98,7 +98,9 @@ def reminded(drafts: Drafts, session: Session, state: State) -> State:
                 leave = "scribe import with --leave leaves the rest out."
                 sentences += [not_seen(found), leave]
             case NotKept():
-                sentences.append(not_kept(found))
+                # of a folder that can't be read it may be said already
+                fault = not_kept(found)
+                sentences += [] if fault in state.message else [fault]
         state = state.saying(" ".join(filter(None, sentences)))
     return state
 
