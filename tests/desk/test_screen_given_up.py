@@ -60,6 +60,41 @@ def test_of_a_folder_of_another_user_it_is_said_once_that_it_can_not_be_read(
     assert sat.state.message == f"{folder} can't be read: it belongs to another user."
 
 
+def test_another_escape_leaves_it_said_how_what_was_given_up_is_brought_back(
+    moon: Path, sit: Sit
+) -> None:
+    sat = sit(moon)
+    sat.press("o", *"It rose.", "escape")
+    given_up = sat.state.message
+    nothing = "That key does nothing here. ? shows the keys."
+    for _ in range(2):
+        sat.press("escape")
+        assert sat.state.message == f"{given_up} {nothing}"
+    sat.press("down")
+    assert sat.state.message == ""
+    sat.press("escape")
+    assert sat.state.message == nothing
+    sat.press("o")
+    sat.state = sat.desk.paste(sat.state, "It set.\nIt shone.")
+    sat.press("escape", "escape")
+    assert sat.state.message == (
+        "These lines aren't in the book. Once nothing is typed any more, U brings them back. This"
+        " paragraph was empty, and wasn't added."
+    )
+    sat.press("U")
+    assert "“It set. It shone.”" in asked(sat)
+
+
+def test_another_escape_leaves_it_said_that_what_was_given_up_is_kept_nowhere(
+    moon: Path, sit: Sit, tmp_path: Path, monkeypatch: pytest.MonkeyPatch
+) -> None:
+    (tmp_path / "file").write_text("no folder")
+    monkeypatch.setenv("XDG_STATE_HOME", str(tmp_path / "file"))
+    sat = sit(moon)
+    sat.press("o", *"It rose.", "escape", "escape")
+    assert "It is here only until scribe ends." in sat.state.message
+
+
 @pytest.mark.parametrize("keys", [["n"], ["escape"], ["U", "n"], ["U", "U", "n"]])
 def test_one_is_back_where_one_was_if_what_was_given_up_stays_so(
     moon: Path, sit: Sit, keys: list[str]

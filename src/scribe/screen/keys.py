@@ -1,5 +1,6 @@
 """What each key asks for: a function from the state to the state after it, and what goes with it."""
 
+import re
 from collections.abc import Callable
 from dataclasses import dataclass, replace
 
@@ -43,6 +44,7 @@ from scribe.screen.state import (
     State,
     Step,
     prompted,
+    saying_first,
     size_typed,
 )
 from scribe.screen.typing_keys import (
@@ -69,6 +71,8 @@ _OF_TABLE = "A table that the book lacks is put into it, and stays there."
 _OF_IMPORT = "The book keeps what is imported. u strikes it, and nothing takes it out."
 _OF_LOST = "Enter opens the book again, and q ends. That key does nothing here."
 _HELP = "Keys "
+# of a text that isn't in the book
+_WAY_BACK = re.compile(r"\bU (?:brings|asks)\b|\bhere only until\b")
 _HELP_SHOWN = "The keys are shown already. Escape goes back."
 # what shows keys also where ? is a letter
 _ASKS_FOR_KEYS = ("f1", "a-?")
@@ -95,7 +99,23 @@ def step(state: State, key: str) -> Step:
     """What a key asks for in a state. A key is a character, or the name of another key."""
     if is_cut(key):
         return Step(state.saying("What came isn't UTF-8, and was left out."))
-    state = state.saying("")
+    found = _step(state.saying(""), key)
+    return _with_way_back(state, found) if key == "escape" else found
+
+
+def _with_way_back(before: State, found: Step) -> Step:
+    """What Escape asks for, and before what it says how a text is brought back, if that was said last.
+
+    One that is pressed once more than is needed doesn't hide it.
+    """
+    if found.asked is not None or not _WAY_BACK.search(before.message):
+        return found
+    said = before.message.removesuffix(found.state.message).rstrip()
+    return Step(saying_first(said, found.state))
+
+
+def _step(state: State, key: str) -> Step:
+    """The same, where nothing is said any more."""
     if state.is_lost and key in ("q", "escape"):
         return Step(state, Quit())
     if state.is_lost and key == "enter":
