@@ -225,6 +225,10 @@ def test_a_blank_at_the_end_or_the_front_of_a_line_is_taken(talk: Prompted) -> N
     assert talk.type(" \trestore 2\t ")[-1] == "The book is at version 9."
     assert talk.type("version\t") == ["The book is at version 9."]
     assert talk.type("\tfind sea\t")[-1] == "Found “sea” once."
+    assert talk.type("find\tsea")[-1] == "Found “sea” once."
+    assert talk.type("help\tquit")[0] == "quit, q or exit ends the conversation."
+    assert talk.type("print\t2") == ["The Tides"]
+    assert talk.type("request\tprint 2") == ["The Tides"]
     # the text of a request is taken with its blanks
     talk.type("correct 1 8 0  ")
     assert talk.type("request history 1")[-1] == "2: “ ” put in after character 8"

@@ -154,8 +154,10 @@ def _talk(conversation: Conversation, file: Path, broken_off: BrokenOff) -> Lost
 def _answer(conversation: Conversation, file: Path, line: bytes) -> None:
     """Answers one line: help, a command of the shell, or a request."""
     line = line.lstrip(_BLANKS)
+    if b" " not in line.partition(b"\t")[0]:
+        # a tab after the first word parts it from the others as a blank does
+        line = line.replace(b"\t", b" ", 1)
     name, _, rest = line.decode("utf-8", "surrogateescape").partition(" ")
-    name = name if rest.strip() else name.rstrip("\t")
     if not name:
         return
     if name == "help":
