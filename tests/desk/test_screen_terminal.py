@@ -150,6 +150,37 @@ def test_the_screen_comes_from_the_background_once_a_shell_has_it_in_front(
     end(shell)
 
 
+@pytest.mark.parametrize("how", ["begun there", "stopped", "stopped and begun there"])
+def test_the_screen_ends_in_the_background_by_a_signal_and_leaves_the_terminal_to_the_shell(
+    moon: Path, how: str
+) -> None:
+    settings = environment(**OF_SHELL)
+    words = ["--norc", "--noprofile", "-i"]
+    shell = at_terminal("bash", *words, settings=settings, folder=moon.parent)
+    shell.expect_exact("$ ")
+    line = f"'{sys.executable}' -m scribe edit moon.braildesk"
+    until_stopped = "until jobs -l | grep -q output; do sleep 0.1; done"
+    if how == "begun there":
+        shell.sendline(f"{line} & {until_stopped}")
+    else:
+        shell.sendline(line)
+        shell.expect_exact("? shows the keys.")
+        children = Path(f"/proc/{shell.pid}/task/{shell.pid}/children")
+        os.kill(int(children.read_text()), signal.SIGSTOP)
+        shell.expect_exact("Stopped")
+    if how == "stopped and begun there":
+        shell.expect_exact("$ ")
+        shell.sendline(f"bg; {until_stopped}")
+    shell.expect_exact("$ ")
+    # bash has one that is stopped go on as well
+    shell.sendline("kill %1")
+    shell.expect_exact("moon.braildesk is at version 7.")
+    shell.sendline("while jobs %1; do sleep 0.1; done; stty -a")
+    shell.expect_exact("Terminated")
+    shell.expect_exact("isig icanon iexten echo ")
+    end(shell)
+
+
 def test_a_dumb_terminal_is_refused_and_talk_is_named(moon: Path) -> None:
     words = ["edit", "moon.braildesk"]
     settings = environment(TERM="dumb")

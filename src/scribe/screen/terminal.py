@@ -75,23 +75,33 @@ _NO_END = "The end of the pasted text didn't come. All that came is taken as pas
 _TOO_SOON = "That key came before the question could be read, and was no answer to it."
 
 
+class _ToldToEnd(Exception):
+    """scribe is to end, and was stopped as it asked for the terminal."""
+
+
 class _RawMode(raw_mode):
     """The mode in which keys come one by one, also where scribe was stopped as it asked for that."""
 
+    def __init__(self, fileno: int, is_told_to_end: Callable[[], bool]) -> None:
+        super().__init__(fileno)
+        self._is_told_to_end = is_told_to_end
+
     def __enter__(self) -> None:
-        """Takes the terminal, as soon as a shell gives it."""
+        """Takes the terminal, as soon as a shell gives it; _ToldToEnd if scribe is to end before that."""
         while True:
             try:
                 return super().__enter__()
             except termios.error as failure:
                 if failure.args[0] != errno.EINTR:
                     raise
+            if self._is_told_to_end():
+                raise _ToldToEnd
             # as the shell has left it since, it is given back
             super().__init__(self.fileno)
 
     def __exit__(self, *_: object) -> None:
-        """Leaves the terminal as it was."""
-        while self.attrs_before is not None:
+        """Leaves the terminal as it was, unless a shell has it, which would stop scribe until it gives it."""
+        while self.attrs_before is not None and not _is_behind(self.fileno):
             try:
                 termios.tcsetattr(self.fileno, termios.TCSANOW, self.attrs_before)
             except termios.error as failure:
@@ -104,14 +114,20 @@ class _RawMode(raw_mode):
 class _Input(Vt100Input):
     """Hands on the characters of the terminal as they come, and says when no more come."""
 
-    def __init__(self, came: Callable[[str], None], ended: Callable[[], None]) -> None:
+    def __init__(
+        self,
+        came: Callable[[str], None],
+        ended: Callable[[], None],
+        is_told_to_end: Callable[[], bool],
+    ) -> None:
         super().__init__(sys.stdin)
         self._came = came
         self._ended = ended
+        self._is_told_to_end = is_told_to_end
 
     def raw_mode(self) -> raw_mode:
         """What takes the terminal for keys, and gives it back."""
-        return _RawMode(self.stdin.fileno())
+        return _RawMode(self.stdin.fileno(), self._is_told_to_end)
 
     def read_keys(self) -> list[KeyPress]:
         """No keys, since what comes is handed on."""
@@ -182,6 +198,14 @@ def _is_there() -> bool:
     return True
 
 
+def _is_behind(fileno: int) -> bool:
+    """Whether a shell has the terminal, so that scribe would be stopped if it did anything to it."""
+    # one that no shell has a hold of, or that was closed, stops nobody
+    with suppress(OSError):
+        return os.tcgetpgrp(fileno) != os.getpgrp()
+    return False
+
+
 def agree_on_widths() -> None:
     """Has prompt_toolkit take as many columns for each character as `columns` does.
 
@@ -231,7 +255,7 @@ class Screen:
         self._drawn = (state, draw(state))
         self._translates = False
         self._say_waiting, desk.while_waiting = desk.while_waiting, self._waits
-        self._input = _Input(self._came, self._paused)
+        self._input = _Input(self._came, self._paused, lambda: self._is_told_to_end)
         self._app = self._application()
 
     def _application(self) -> Application[None]:
@@ -262,6 +286,9 @@ class Screen:
             self.is_hung_up = True
         except TerminalFailed as failed:
             raise failed.failure from None
+        except _ToldToEnd:
+            # nothing was drawn, or a shell has drawn over it since
+            pass
         finally:
             try:
                 self._settle()
