@@ -173,6 +173,24 @@ def test_a_copy_of_a_book_opens_at_its_front(moon: Path, sit: Sit) -> None:
     assert sit(copy).state.chosen == 0
 
 
+def test_a_book_that_takes_the_place_of_another_one_opens_where_it_was_left_itself(
+    moon: Path, sit: Sit
+) -> None:
+    later = Path(shutil.copyfile(moon, moon.with_name("later.braildesk")))
+    for book, keys in ((moon, ["down"]), (later, ["down", "down", "right"])):
+        sat = sit(book)
+        sat.press(*keys)
+        left(sat)
+    later.replace(moon)
+    again = sit(moon)
+    assert (again.state.chosen, again.state.place) == (2, 1)
+    left(again)
+    # one that was never open is opened where that was left whose place it takes, as one from a backup
+    shutil.copyfile(moon, later)
+    later.replace(moon)
+    assert sit(moon).state.chosen == 2
+
+
 def test_a_book_opens_where_it_rested_before_scribe_was_killed(
     moon: Path, at: Open, sit: Sit
 ) -> None:

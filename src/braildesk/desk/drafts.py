@@ -424,9 +424,24 @@ class Drafts:
                 ):
                     self._folder.rename(name, self._name(Begun(what)))
                     missing.discard(what)
+            if identity:
+                self._adopt_place(names, identity, is_open)
         except OSError:
             # what can't be read is said where it is asked for
             pass
+
+    def _adopt_place(
+        self, names: Sequence[str], identity: Identity, is_open: bool
+    ) -> None:
+        """Takes over where this book was left, where another one had been left at its path before."""
+        its = self._name(Begun.LEFT_AT)
+        if its not in names or self._is_of(its, identity, is_open=True):
+            return
+        for name in names:
+            is_place = name.partition(".")[2] == Begun.LEFT_AT.value
+            if is_place and self._is_of(name, identity, is_open):
+                self._folder.rename(name, its)
+                return
 
     def adopt_if(self, is_of_book: Callable[[Draft], bool]) -> None:
         """Takes over a text that waits for a book which isn't at its path any more, if none waits here.
