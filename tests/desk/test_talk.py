@@ -248,6 +248,11 @@ def test_a_blank_at_the_end_or_the_front_of_a_line_is_taken(talk: Prompted) -> N
             "The quotation mark ' is opened and not closed. Nothing was changed.",
         ),
         (
+            r'find "C:\dir\"',
+            "The quotation mark \" is opened and not closed. One after a backslash doesn't close it;"
+            " two backslashes stand for one. Nothing was changed.",
+        ),
+        (
             "list -ing",
             "Unrecognized arguments: -ing. A word that begins with a hyphen stands in quotation"
             " marks, as '-ing'. It is typed as: list [PARAS] [--paragraphs PARAS] [--headings]"

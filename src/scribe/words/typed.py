@@ -21,6 +21,9 @@ _WORD = re.compile(
 )
 # what a backslash isn't kept before
 _ESCAPED = re.compile(r"""\\([\ \t'"\\])""")
+_AFTER_BACKSLASH = (
+    " One after a backslash doesn't close it; two backslashes stand for one."
+)
 _NUMERIC = re.compile(r"[-+]?\d[\d.,]*")
 _RANGE = re.compile(r"([0-9]+)?(?:(-)([0-9]+)?)?")
 #: The digits of a number in the requests of a book at most.
@@ -144,8 +147,10 @@ def words_of(line: str) -> list[str]:
         place = match.end()
         single, double, bare = match.groups()
         if bare is not None and bare[0] in "'\"":
+            is_taken = bare[0] == '"' and '\\"' in line[match.start() :]
             raise InvalidInput(
                 f"The quotation mark {bare[0]} is opened and not closed."
+                f"{_AFTER_BACKSLASH if is_taken else ''}"
             )
         word = _ESCAPED.sub(r"\1", double or bare or "") if single is None else single
         if bare is not None and bare.startswith("\\-"):
