@@ -47,6 +47,9 @@ def test_what_escape_gives_up_comes_back_by_a_key(moon: Path, sit: Sit) -> None:
     sat.press("y", "enter")
     assert sat.state.kept == "kept: paragraph 4"
     assert [each.id for each in sat.state.book] == [1, 4, 2, 3]
+    # one was given up, and is in the book by now
+    sat.press("escape", "U")
+    assert sat.state.message == "No text is set aside in this book."
 
 
 @NEEDS_ROOT
@@ -496,7 +499,7 @@ def test_a_text_that_was_left_for_later_can_be_given_up_when_it_is_asked_about_a
 def test_where_nothing_was_given_up_the_key_says_so(empty_book: Path, sit: Sit) -> None:
     sat = sit(empty_book)
     sat.press("U")
-    assert sat.state.message == "No text was given up in this book."
+    assert sat.state.message == "No text is set aside in this book."
 
 
 @pytest.mark.parametrize("before", ["", "?", "x", "t"])

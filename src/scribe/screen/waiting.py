@@ -48,6 +48,8 @@ _ONCE_OPEN = (
 _LATER = "The text waits. U asks about it, and so does an opening at which no newer one waits."
 _NOT_LATER = "The text couldn't be kept to wait. U brings it back."
 _KEPT = "They are kept as a text, which U brings back."
+# others may have been given up, and be in the book since
+_NO_TEXT = "No text is set aside in this book."
 _BACK_LATER = "Once nothing is asked or typed any more, U brings it back."
 
 
@@ -96,7 +98,7 @@ def _brought_back(session: Session, unsent: Unsent, state: State, place: int) ->
     """Asks about a text that was given up, or left for later."""
     texts = unsent.texts()
     if not texts:
-        return state.saying("No text was given up in this book.")
+        return state.saying(_NO_TEXT)
     place %= len(texts)
     before = state.question.came_from if state.question else None
     came_from = before or (state.chosen, state.place, state.pane)
