@@ -161,6 +161,8 @@ def test_a_text_that_is_typed_on_at_a_question_answers_nothing_and_is_set_aside(
         # a letter alone is no answer either, and the Enter after it only says so
         ("p\r\r", 2),
         ("xy\r\r", 2),
+        # also where another answer was gone to between two texts
+        ("xy\r\tab\r\r", 2),
         ("x y\r ", None),
     ],
 )

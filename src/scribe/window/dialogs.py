@@ -354,13 +354,16 @@ class _Blind(QObject):
         return self._is_gone_to or is_read and not self._text.strip()
 
     def _say(self, to: QWidget) -> None:
-        """Says once that nothing was answered, and goes to the last answer, which does least."""
+        """Says once that nothing was answered, and goes each time to the last answer, which does least."""
         box = to.window()
-        if self._is_said or not isinstance(box, QMessageBox):
+        if not isinstance(box, QMessageBox):
             return
-        self._is_said = True
         last = box.escapeButton()
         assert isinstance(last, QPushButton)
+        if self._is_said:
+            last.setFocus()
+            return
+        self._is_said = True
         last.setAccessibleDescription(_NO_ANSWER)
         box.setDefaultButton(last)
         last.setFocus()
