@@ -17,7 +17,7 @@ from hypothesis import HealthCheck, given, settings, strategies as st
 from braildesk.desk.draft import Aim, Draft, draft_in
 from braildesk.desk.drafts import Begun, Drafts, NotKept, NotSaved
 from braildesk.desk.import_note import note_in
-from braildesk.desk.own_folder import MOST_BYTES
+from braildesk.desk.own_folder import MOST_BYTES, OwnFolder
 from braildesk.desk.record import NotSuch, Record
 from braildesk.protocol.asked import seen
 from braildesk.text.spans import Span
@@ -373,6 +373,47 @@ def test_a_text_that_is_kept_later_takes_no_older_one_away(
     unsent.keep(None)
     assert unsent.unkept == ()
     assert [each.text[0] for each in unsent.texts()] == ["c", "b", "a"]
+
+
+def test_what_is_typed_is_kept_also_where_those_left_for_later_have_no_room_for_another(
+    moon: Path, store: Path
+) -> None:
+    texts = [Draft(Aim.AFTER, 1, "en", "", letter * 1_500_000) for letter in "abc"]
+    unsent = Unsent(Drafts(moon))
+    for each in texts:
+        unsent.keep(each)
+        unsent.put_off()
+    with pytest.raises(NotKept) as told:
+        unsent.keep(NOTE)
+    assert not_kept(told.value) == (
+        f"What is left for later can't be kept in {store}: it has more than 4,194,304 bytes."
+    )
+    its = Drafts(moon)
+    assert (its.waiting(), its.later()) == (NOTE, (texts[1], texts[0]))
+    assert its.given_up() == (texts[2],)
+
+
+def test_that_what_is_typed_is_not_kept_is_said_where_another_text_waits_in_its_place(
+    moon: Path, store: Path, monkeypatch: pytest.MonkeyPatch
+) -> None:
+    first = Draft(Aim.AFTER, 1, "en", "", "It rose.")
+    unsent = Unsent(Drafts(moon))
+    unsent.keep(first)
+    unsent.put_off()
+
+    def full(folder: OwnFolder, name: str, data: bytes) -> None:
+        raise OSError(errno.ENOSPC, os.strerror(errno.ENOSPC))
+
+    with monkeypatch.context() as patched:
+        patched.setattr(OwnFolder, "write", full)
+        with pytest.raises(NotKept) as told:
+            unsent.keep(NOTE)
+    assert not_kept(told.value) == (
+        f"What is typed can't be kept in {store}: there is no room on the disk."
+    )
+    assert Drafts(moon).waiting() == first
+    unsent.keep(NOTE)
+    assert (Drafts(moon).waiting(), Drafts(moon).later()) == (NOTE, (first,))
 
 
 def test_a_text_that_is_too_long_is_not_kept_and_the_one_before_it_stays(

@@ -266,10 +266,25 @@ class Unsent:
             self._drafts.clear()
         else:
             if before in self._later and before not in self._put_off:
-                # it is found there if the machine stops before it waits again
-                self._keep_later([before, *self._put_off])
+                self._keep_beside(before)
             self._drafts.save(wanted)
         self.waiting, self.typed_at = wanted, None
+
+    def _keep_beside(self, draft: Draft) -> None:
+        """Keeps a text that is left for later where it is found if the machine stops before it waits again.
+
+        Where those that are have no room for it, it is among those given up; may raise `NotKept`.
+        """
+        try:
+            self._keep_later([draft, *self._put_off])
+        except NotSaved as fault:
+            try:
+                older = self._drafts.put_by(draft)
+            except NotKept:
+                # what comes in its place isn't kept either
+                of_typed = Begun.WAITING, fault.folder, fault.cause, fault.is_out
+                raise NotSaved(*of_typed) from fault
+            self._older = (*older, *self._older)
 
     def _keep_later(self, texts: Iterable[Draft]) -> None:
         """Keeps the texts that were left for later and don't wait; may raise `NotKept`."""
