@@ -375,6 +375,23 @@ def test_a_text_that_is_kept_later_takes_no_older_one_away(
     assert [each.text[0] for each in unsent.texts()] == ["c", "b", "a"]
 
 
+def test_of_texts_that_read_the_same_the_one_that_was_given_up_last_is_brought_back(
+    moon: Path, store: Path, monkeypatch: pytest.MonkeyPatch
+) -> None:
+    unsent = Unsent(Drafts(moon))
+    unsent.put_by(replace(NOTE, paragraph=1))
+
+    def full(folder: OwnFolder, name: str, data: bytes) -> None:
+        raise OSError(errno.ENOSPC, os.strerror(errno.ENOSPC))
+
+    with monkeypatch.context() as patched:
+        patched.setattr(OwnFolder, "write", full)
+        assert "It is here only" in unsent.put_by(NOTE)
+        assert unsent.texts() == (NOTE,)
+    unsent.keep_again()
+    assert Unsent(Drafts(moon)).texts() == unsent.texts() == (NOTE,)
+
+
 def test_what_is_typed_is_kept_also_where_those_left_for_later_have_no_room_for_another(
     moon: Path, store: Path
 ) -> None:

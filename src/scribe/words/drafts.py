@@ -392,6 +392,9 @@ class Unsent:
             if not first:
                 raise
             kept = ()
-        found = {each.text: each for each in (*first, *kept, *self._older)}
-        newest = [found.pop(each) for each in self._newest if each in found]
+        found: dict[str, Draft] = {}
+        for each in (*first, *kept, *self._older):
+            # of those that read the same it is the newest
+            found.setdefault(each.text, each)
+        newest = [found.pop(text) for text in self._newest if text in found]
         return (*newest, *found.values())
