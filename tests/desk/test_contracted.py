@@ -12,7 +12,7 @@ from collections.abc import Iterable, Mapping, Sequence
 from io import BytesIO, StringIO
 from itertools import product
 from pathlib import Path
-from typing import cast
+from typing import Any, cast
 
 import pytest
 
@@ -55,8 +55,10 @@ from braildesk.tables.convert.word_list import (
 )
 from braildesk.tables.tiling import braille, pieces
 
+from scribe.cli.commands import bring as bring_command
 from scribe.cli.commands import tune as tune_command
 from scribe.words.console import Console
+from scribe.words.status import Status
 from tool import environment, scribe
 
 SMALL = """\
@@ -708,6 +710,34 @@ def test_a_table_for_a_text_is_for_those_who_may_read_the_text(
     cache = str(tmp_path / "cache")
     assert scribe(*words, folder=tmp_path, XDG_CACHE_HOME=cache).status == 0
     assert stat.S_IMODE((tmp_path / "out.utb").stat().st_mode) == mode
+
+
+def test_a_table_for_a_text_that_is_gone_by_then_is_written_for_those_who_might_read_it(
+    tmp_path: Path, monkeypatch: pytest.MonkeyPatch
+) -> None:
+    made = inputs(tmp_path)
+    text, table = tmp_path / "text.txt", tmp_path / "out.utb"
+    text.chmod(0o600)
+
+    def tailored(*words: Any) -> Tailored:
+        # a disk that is carried about was taken away, or the text was put elsewhere
+        text.unlink()
+        return tailor(*words)
+
+    monkeypatch.setattr(bring_command, "tailor", tailored)
+    monkeypatch.setenv("XDG_CACHE_HOME", str(tmp_path / "cache"))
+    its = Namespace(
+        file=table,
+        manuscript=text,
+        words=tmp_path / "words",
+        add=None,
+        anyway=False,
+        overwrite=False,
+    )
+    console = Console(BytesIO(), StringIO(), errors := StringIO())
+    assert bring_command._for_manuscript(made, its, console) is Status.DONE
+    assert errors.getvalue().splitlines()[-1].startswith(f"{table} was written, ")
+    assert stat.S_IMODE(table.stat().st_mode) == 0o600
 
 
 def test_a_table_is_made_for_the_paragraphs_of_a_book_that_stand(

@@ -212,7 +212,7 @@ def _not_replaced(file: Path, there: AnotherIsThere) -> Stop:
 
 def _for_manuscript(table: Path, arguments: Namespace, console: Console) -> Status:
     """Makes a table for a manuscript, and says what it is worth."""
-    manuscript = _manuscript(arguments.manuscript, console)
+    manuscript, access = _manuscript(arguments.manuscript, console)
     means = means_for(table, arguments.words, console.progress, arguments.add)
     tailored = tailor(table, manuscript, means)
     console.say(manuscript_report.NOT_CERTIFIED, *manuscript_report.said_of(tailored))
@@ -220,12 +220,13 @@ def _for_manuscript(table: Path, arguments: Namespace, console: Console) -> Stat
         raise Stop(FEW_WORDS)
     text, warned = manuscript_report.text_of(tailored)
     console.say(*warned)
-    return _written(report.with_sum(text), arguments, console)
+    return _written(report.with_sum(text), arguments, console, access)
 
 
-def _manuscript(path: Path, console: Console) -> Manuscript:
+def _manuscript(path: Path, console: Console) -> tuple[Manuscript, Access]:
+    """A manuscript, and who may read it: it may be gone by the time at which the table is made."""
     try:
-        found = read_manuscript(path)
+        found, access = read_manuscript(path), Access.of(path)
     except UnreadableText as cause:
         why = unreadable(cause).replace(", and import it again", "")
         raise Stop(f"{path} {why}.") from cause
@@ -235,7 +236,7 @@ def _manuscript(path: Path, console: Console) -> Manuscript:
         raise Stop(f"{path} has no paragraph, so there is nothing to make a table for.")
     if found.kept_at is not None:
         console.say(as_kept(path, found.kept_at))
-    return Manuscript(path.name, found.texts)
+    return Manuscript(path.name, found.texts), access
 
 
 def listed(language: str | None = None) -> list[str]:
@@ -294,15 +295,16 @@ def _why_not(brought: Converted) -> str:
     return FEW_LINES if brought.unseen.share >= LIMIT else NOT_WRITTEN
 
 
-def _written(text: str, arguments: Namespace, console: Console) -> Status:
-    file, manuscript = arguments.file, arguments.manuscript
+def _written(
+    text: str, arguments: Namespace, console: Console, access: Access = Access()
+) -> Status:
+    """Writes a table, which names words of a manuscript for which it is made."""
+    file = arguments.file
     replaces = None if arguments.overwrite else report.is_brought
     if file is None:
         console.pass_on(*text.removesuffix("\n").split("\n"))
         return Status.DONE
     try:
-        # it names words of a manuscript for which it is made
-        access = Access() if manuscript is None else Access.of(manuscript)
         write_whole(file, text.encode(), access, replaces)
     except AnotherIsThere as taken:
         raise _not_replaced(file, taken) from taken
