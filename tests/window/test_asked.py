@@ -6,7 +6,8 @@ from types import SimpleNamespace
 from typing import Any
 
 import pytest
-from PyQt6.QtCore import Qt, QTimer
+from PyQt6.QtCore import QEvent, Qt, QTimer
+from PyQt6.QtGui import QKeyEvent
 from PyQt6.QtTest import QTest
 from PyQt6.QtWidgets import QApplication, QMessageBox, QPushButton, QWidget
 
@@ -260,6 +261,38 @@ def test_a_space_after_which_no_letter_comes_presses_the_button_a_moment_later(
     answers = ("Change &all", "Ask at each &place", "&Cancel")
     given = dialogs.ask(over, "Change", "So?", answers, lambda text: None)
     assert (given, seen) == (0, [True])
+
+
+def test_a_space_that_is_held_down_is_not_repeated_below_the_question(
+    application: QApplication, monkeypatch: pytest.MonkeyPatch
+) -> None:
+    clock = [0.0]
+    monkeypatch.setattr(dialogs, "time", SimpleNamespace(monotonic=lambda: clock[0]))
+    monkeypatch.setattr(dialogs, "_READING_SECONDS", 0.001)
+    over, seen = QWidget(), list[bool]()
+    kinds = QEvent.Type
+
+    def key(kind: QEvent.Type, is_repeated: bool) -> QKeyEvent:
+        its = Qt.Key.Key_Space, Qt.KeyboardModifier.NoModifier
+        return QKeyEvent(kind, *its, " ", is_repeated)
+
+    def press(button: QPushButton, box: QMessageBox) -> None:
+        clock[0] = 1.0
+        QApplication.sendEvent(button, key(kinds.KeyPress, False))
+        # Qt doesn't say of each one that it is repeated
+        for is_repeated in (True, False, True):
+            _HANDS.qWait(10)
+            for kind in (kinds.KeyRelease, kinds.KeyPress):
+                QApplication.sendEvent(button, key(kind, is_repeated))
+            _HANDS.qWait(100)
+            seen.append(box.isVisible())
+        QApplication.sendEvent(button, key(kinds.KeyRelease, False))
+        QTimer.singleShot(2_000, box.reject)
+
+    _at_question(press)
+    answers = ("Change &all", "Ask at each &place", "&Cancel")
+    given = dialogs.ask(over, "Change", "So?", answers, lambda text: None)
+    assert (given, seen) == (0, [True, True, True])
 
 
 @pytest.mark.parametrize(

@@ -49,6 +49,8 @@ IsStopped = Callable[[], bool]
 # for so long a question stands before Space alone, which may come from a text, is an answer to it, and
 # for so long no letter comes after it then
 _READING_SECONDS = 0.3
+# after so long a key that came up isn't one that is repeated
+_REPEAT_MILLISECONDS = 50
 # keys that go from one button to another, of which the last are those of a text too
 _TABS = (Qt.Key.Key_Tab, Qt.Key.Key_Backtab)
 _ARROWS = (*(Qt.Key.Key_Left, Qt.Key.Key_Right), *(Qt.Key.Key_Up, Qt.Key.Key_Down))
@@ -264,8 +266,9 @@ class _Blind(QObject):
         self._reading, self._read_at = reading, math.inf
         # Enter and Space press a button that was gone to
         self._is_gone_to = self._is_said = False
-        # the button that Space presses, unless a letter comes soon after it
+        # the button that Space presses, unless a letter comes soon after it; and whether Space is down still
         self._pressed: QPushButton | None = None
+        self._is_down = False
         self._held = QTimer(self)
         self._held.setSingleShot(True)
         self._held.timeout.connect(self._press)
@@ -308,23 +311,41 @@ class _Blind(QObject):
 
     def _is_held(self, to: QObject, event: QEvent | None) -> bool:
         """Whether Space, which may begin a text, is held; what is pressed after it ends that."""
-        if not isinstance(event, QKeyEvent) or event.type() != QEvent.Type.KeyPress:
+        if not isinstance(event, QKeyEvent):
+            return False
+        if event.type() == QEvent.Type.KeyRelease:
+            return self._is_let_go(event)
+        if event.type() != QEvent.Type.KeyPress:
             return False
         is_space = is_letter(event) and event.text() == " " and self._is_answer
         if is_space and not self._is_gone_to and self._reading:
-            if isinstance(to, QPushButton) and not self._held.isActive():
+            self._is_down = True
+            if isinstance(to, QPushButton) and self._pressed is None:
                 self._pressed = to
                 self._held.start(math.ceil(self._reading * 1000))
-            return self._held.isActive()
+            return self._pressed is not None
         if event.text() or event.key() in (*_TABS, *_ARROWS):
             # not by a key that is held for another one, or has a screen reader be silent
             self._held.stop()
+            self._pressed = None
         return False
 
+    def _is_let_go(self, event: QKeyEvent) -> bool:
+        """Whether it is Space that comes up, which is held; it is repeated for as long as it is down."""
+        if event.key() != Qt.Key.Key_Space or self._pressed is None:
+            return False
+        self._is_down = self._is_down and event.isAutoRepeat()
+        # Qt doesn't tell of each time that it is repeated: the next one comes soon
+        self._held.start(max(self._held.remainingTime(), _REPEAT_MILLISECONDS))
+        return True
+
     def _press(self) -> None:
-        """Presses the button for which Space was meant."""
-        if self._pressed is not None and not self._text.strip():
-            self._pressed.click()
+        """Presses the button for which Space was meant, once that is up: else it goes on below the question."""
+        if self._pressed is None or self._is_down:
+            return
+        button, self._pressed = self._pressed, None
+        if not self._text.strip():
+            button.click()
 
     def _after(self, event: QEvent | None) -> str | None:
         """The text after what came; none where that is for the buttons."""
