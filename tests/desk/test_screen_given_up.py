@@ -307,6 +307,28 @@ def test_that_the_words_of_a_note_that_waits_were_changed_is_said(
     assert again.state.heard.endswith(changed)
 
 
+@pytest.mark.parametrize("is_changed", [False, True])
+def test_a_note_that_waits_is_for_its_words_where_these_have_other_cells_by_now(
+    moon: Path, sit: Sit, is_changed: bool
+) -> None:
+    plain = moon.with_name("plain.utb").read_bytes()
+    with Session(moon) as session:
+        session.put_table("long", plain.replace(b"letter m 134", b"letter m 6-6-134"))
+    sat = sit(moon)
+    sat.press("/", *"far", "enter", "m", *"how far?")
+    sat.state = sat.desk.save_draft(sat.state)
+    sat.desk.close()
+    with Session(moon) as session:
+        session.set_table(1, "long")
+        if is_changed:
+            session.correct(1, len("The moon is far"), 0, ",")
+    again = sit(moon)
+    again.press("y")
+    assert again.state.heard == "On “far”."
+    again.press("enter")
+    assert "Mark 2, open, on “far”: how far?" in " ".join(again.lines)
+
+
 def test_a_note_that_waits_is_not_taken_for_a_mark_on_other_words(
     moon: Path, sit: Sit
 ) -> None:

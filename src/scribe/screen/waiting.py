@@ -225,14 +225,16 @@ def unkept(session: Session, state: State, saved: Draft) -> Draft | None:
 
 
 def _cells_of(session: Session, number: int, saved: Draft) -> Span:
-    """The cells on which a note would stand: those of its words, if these were moved."""
+    """The cells on which a note would stand: those of its words, if these were moved or have others."""
     now, braille = session.print_of(number), session.braille_of(number)
-    words = saved.words_in(now) if now != saved.before and braille else None
-    if words is not None:
-        return cells_of(session, number, words)
-    cells = saved.cells or Span(0, 1)
+    cells, words = saved.cells or Span(0, 1), saved.words_in(now) if braille else None
     is_there = cells.stop <= len(braille)
-    return cells if is_there else Span(0, 1)
+    if words is None:
+        return cells if is_there else Span(0, 1)
+    # also where the print is as it was, by another table
+    if is_there and words_of(session, number, cells, now, braille) == words:
+        return cells
+    return cells_of(session, number, words)
 
 
 def _with_chosen(session: Session, state: State, cells: Span) -> State:
