@@ -329,6 +329,29 @@ def test_a_note_that_waits_is_for_its_words_where_these_have_other_cells_by_now(
     assert "Mark 2, open, on “far”: how far?" in " ".join(again.lines)
 
 
+def test_a_note_that_is_given_up_where_its_words_were_changed_is_for_them_still(
+    moon: Path, sit: Sit
+) -> None:
+    sat = sit(moon)
+    sat.press("/", *"far", "enter", "m", *"how far?")
+    sat.state = sat.desk.save_draft(sat.state)
+    sat.desk.close()
+    with Session(moon) as session:
+        session.correct(1, session.print_of(1).index("far"), 3, "near")
+    again = sit(moon)
+    again.press("n", "U")
+    assert "The print there has been changed since." in asked(again)
+    again.press("n", "q")
+    again.desk.close()
+    with Session(moon) as session:
+        session.undo(1)
+    last = sit(moon)
+    last.press("U")
+    assert "has been changed since" not in asked(last)
+    last.press("y")
+    assert last.state.heard == "On “far”."
+
+
 def test_a_note_that_waits_is_not_taken_for_a_mark_on_other_words(
     moon: Path, sit: Sit
 ) -> None:

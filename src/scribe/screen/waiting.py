@@ -79,6 +79,8 @@ def _given_up(unsent: Unsent, state: State) -> State:
     if asked is not None and asked.draft is not None:
         state = replace(state, typed=asked.draft, question=None)
     draft = draft_of(state)
+    if draft and asked is not None and asked.draft is not None:
+        draft = _as_it_waits(unsent, draft)
     fault = unsent.put_by(draft) if draft else ""
     if asked is not None and asked.lines:
         its, field = state.reading, state.typed
@@ -92,6 +94,14 @@ def _given_up(unsent: Unsent, state: State) -> State:
         said = f"{said} {fault or 'U brings it back.'}"
     given_up = replace(state, typed=None, preview=None, question=None, anchor=None)
     return given_up.saying(said)
+
+
+def _as_it_waits(unsent: Unsent, draft: Draft) -> Draft:
+    """What is given up of what waits: a note is for the words for which it was typed still."""
+    waits = unsent.waiting
+    if waits is None or waits.aim is not Aim.NOTE or waits.text != draft.text:
+        return draft
+    return waits
 
 
 def _brought_back(session: Session, unsent: Unsent, state: State, place: int) -> State:
