@@ -248,7 +248,7 @@ def test_what_a_mark_goes_on_is_said_where_its_note_is_typed_further(
         "enter",
         "U",
     )
-    changed = "The print there has been changed since. The note was for “far”."
+    changed = "The print there has been changed since. The note was typed for “far”."
     assert changed in asked(sat)
     sat.press("y")
     assert sat.state.heard == f"On “e h”. {changed}"
@@ -301,7 +301,7 @@ def test_that_the_words_of_a_note_that_waits_were_changed_is_said(
     with Session(moon) as session:
         session.correct(1, session.print_of(1).index("far"), 3, new)
     again = sit(moon)
-    changed = " The print there has been changed since. The note was for “far”."
+    changed = " The print there has been changed since. The note was typed for “far”."
     assert changed in asked(again)
     again.press("y")
     assert again.state.heard.endswith(changed)

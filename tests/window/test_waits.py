@@ -6,6 +6,7 @@ from collections.abc import Callable, Iterator, Sequence
 from contextlib import AbstractContextManager, contextmanager
 from functools import partial
 from pathlib import Path
+from typing import Any
 
 import pytest
 from PyQt6.QtCore import QTimer
@@ -172,6 +173,82 @@ def test_a_note_whose_cells_are_gone_is_not_lost(
     desk.act("bring_back")
     assert desk.window.message.text.endswith(" Ctrl+B brings it back.")
     assert (_given_up(desk.path), _waiting(desk)) == (["who?"], None)
+
+
+def _note_on_far(desk: Desk, monkeypatch: pytest.MonkeyPatch) -> Draft:
+    """A note that was typed for the word “far”, as it waited, and was given up."""
+    kept: list[Draft | None] = []
+
+    def text(*its: Any) -> None:
+        its[-1]("how far?")
+        kept.append(_waiting(desk))
+
+    monkeypatch.setattr(dialogs, "text_further", text)
+    desk.choose(1)
+    desk.window.print.select(Span(11, 14))
+    desk.act("mark")
+    (draft,) = kept
+    assert draft is not None and _given_up(desk.path) == ["how far?"]
+    return draft
+
+
+@pytest.mark.parametrize(
+    "old, new, cells",
+    [
+        ("The mon", "In the night the mon", "26 to 28"),
+        ("away", "off", "13 to 15"),
+        ("The mon is far away.", "So far it was never.", "5 to 7"),
+    ],
+)
+def test_a_note_is_for_its_words_where_others_were_changed(
+    desk: Desk,
+    given: Answers,
+    monkeypatch: pytest.MonkeyPatch,
+    old: str,
+    new: str,
+    cells: str,
+) -> None:
+    draft, asked = _note_on_far(desk, monkeypatch), list[str]()
+    start = "The mon is far away.".index(old)
+    desk.do(requests.Correct(2, start, len(old), new))
+
+    def further(over: object, title: str, sentence: str, *_: object) -> str:
+        asked.append(sentence)
+        return "how far?"
+
+    monkeypatch.setattr(dialogs, "text_further", further)
+    monkeypatch.setattr(dialogs, "one_of", lambda _, t, a, names, f: names[0])
+    desk.act("bring_back")
+    assert asked == [f"The note of a mark on “far”, cells {cells}:"]
+    assert desk.window.marks.text.endswith(", open, on “far”: how far?")
+    Drafts(desk.path).save(draft)
+    given["choices"] = [2]
+    desk.acting(Actions(desk).offer)
+    assert "“how far?”. Shall it be typed further?" in given["said"][-1]
+
+
+@pytest.mark.parametrize("new", ["near", "farther", "the sea"])
+def test_that_the_words_of_a_note_were_changed_is_said_and_which_they_were(
+    desk: Desk,
+    given: Answers,
+    monkeypatch: pytest.MonkeyPatch,
+    new: str,
+) -> None:
+    draft, asked = _note_on_far(desk, monkeypatch), list[str]()
+    desk.do(requests.Correct(2, 11, 3, new))
+    said = "The print there has been changed since. The note was typed for “far”."
+
+    def further(over: object, title: str, sentence: str, *_: object) -> None:
+        asked.append(sentence)
+
+    monkeypatch.setattr(dialogs, "text_further", further)
+    monkeypatch.setattr(dialogs, "one_of", lambda _, t, a, names, f: names[0])
+    desk.act("bring_back")
+    assert asked[0].startswith(f"{said} The note of a mark on “")
+    Drafts(desk.path).save(draft)
+    given["choices"] = [2]
+    desk.acting(Actions(desk).offer)
+    assert given["said"][-1].endswith(f"“how far?”. {said} Shall it be typed further?")
 
 
 def test_while_a_note_is_typed_the_end_of_the_session_is_not_looked_at_again_and_again(

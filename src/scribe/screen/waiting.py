@@ -172,7 +172,7 @@ def asked_about(
     if places:
         state = state.at(places[0])
         now = session.print_of(state.book[places[0]].id)
-        changed = _changed(saved, now)
+        changed = changed_since(saved, now)
         before = saved.before if changed and saved.aim is Aim.EDIT else None
     amount = _amount(saved)
     sentence = (
@@ -195,15 +195,6 @@ def asked_about(
     asked = f"{sentence} Shall it be typed further?"
     question = Question(asked, draft=field, more="l leaves it for later.")
     return replace(state, question=question)
-
-
-def _changed(saved: Draft, now: str) -> str:
-    """That the print of a text, or the words of a note, were changed, and which these were; or nothing."""
-    changed = "" if saved.words_in(now) else changed_since(saved, now)
-    if not changed or saved.words is None:
-        return changed
-    words = saved.before[saved.words.start : saved.words.stop]
-    return f"{changed} The note was for {quoted(words)}."
 
 
 def where_kept(session: Session, state: State, saved: Draft) -> str:

@@ -274,8 +274,8 @@ class OpenBook:
         cell = max(0, min(cell, len(reading.its.braille) - 1))
         return highlighted_by_cell(self._session, reading.its, cell)
 
-    def words_of(self, reading: ChosenParagraph, cells: Span) -> tuple[str, Span]:
-        """The words that cells stand for, and all cells of these."""
+    def words_of(self, reading: ChosenParagraph, cells: Span) -> tuple[Span, Span]:
+        """Where the words stand that cells stand for, and all cells of these."""
         its = reading.its
         number = its.paragraph.id
         words = words_of(self._session, number, cells, its.text, its.braille)
@@ -284,7 +284,7 @@ class OpenBook:
             cells = Span(
                 first.start, self.by_character(reading, words.stop - 1).cells.stop
             )
-        return its.text[words.start : words.stop], cells
+        return words, cells
 
     def cells_of(self, paragraph: int, words: Span) -> Span:
         """The cells on which a mark on words stands."""

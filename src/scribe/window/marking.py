@@ -11,6 +11,7 @@ from braildesk.text.spans import Span
 from scribe.window import dialogs
 from scribe.window.arriving import say_there
 from scribe.window.desk import STRUCK, Desk
+from scribe.words.drafts import changed_since
 from scribe.words.paragraph import mark_line, quoted
 from scribe.words.status import Stop
 
@@ -44,18 +45,41 @@ class Marking:
         place = desk.window.print.place
         return desk.asked(partial(desk.book.by_character, reading, place)).cells
 
-    def noted_further(self, cells: Span, note: str) -> None:
+    def noted_further(self, draft: Draft) -> None:
         """Asks for a note that was typed before, with the caret where its mark will be."""
         desk, reading = self.desk, self.desk.reading
+        cells, changed = self._cells_of(draft), ""
         # a screen reader that hears of the caret first says nothing of the print
         desk.window.print.setFocus()
+        if reading is not None:
+            changed = changed_since(draft, reading.its.text)
         if reading is not None and cells.stop <= len(reading.its.braille):
             there = desk.asked(partial(desk.book.by_cell, reading, cells.start))
             desk.window.print.put_caret(there.words.start)
-        self.noted(cells, note)
+        self.noted(cells, draft.text, changed)
 
-    def noted(self, cells: Span, note: str) -> None:
-        """Asks for the note of a mark on cells, which waits while it is typed."""
+    def _cells_of(self, draft: Draft) -> Span:
+        """The cells on which a note would stand: those of its words, if these were moved or have others."""
+        desk, reading = self.desk, self.desk.reading
+        cells = draft.cells or Span(0, 1)
+        if reading is None or not reading.its.braille:
+            return cells
+        its = reading.its
+        words = draft.words_in(its.text)
+        if words is None:
+            return cells
+        if cells.stop <= len(its.braille):
+            # also where the print is as it was, by another table
+            there, _ = desk.asked(partial(desk.book.words_of, reading, cells))
+            if there == words:
+                return cells
+        return desk.asked(partial(desk.book.cells_of, its.paragraph.id, words))
+
+    def noted(self, cells: Span, note: str, changed: str = "") -> None:
+        """Asks for the note of a mark on cells, which waits while it is typed.
+
+        It may be said that the print there was changed.
+        """
         desk, reading = self.desk, self.desk.reading
         assert reading is not None
         its, version = reading.its, desk.contents.version
@@ -65,15 +89,18 @@ class Marking:
             cells = Span(0, 1)
 
         def typed(text: str) -> None:
-            draft = Draft(Aim.NOTE, number, table, its.text, text, cells, version)
+            of_print = Draft(Aim.NOTE, number, table, its.text, text)
+            draft = replace(of_print, cells=cells, version=version, words=words)
             desk.have_wait(draft if text else None)
 
-        typed(note)
         try:
             words, marked = desk.asked(partial(desk.book.words_of, reading, cells))
-            asked = f"The note of a mark on {quoted(words)}, {marked.counted('cell')}:"
+            typed(note)
+            said = quoted(its.text[words.start : words.stop])
+            asked = f"{changed} The note of a mark on {said}, {marked.counted('cell')}:"
             title = f"Mark in paragraph {number}"
-            found = dialogs.text_further(desk.window, title, asked, note, typed)
+            its_line = title, asked.lstrip(), note, typed
+            found = dialogs.text_further(desk.window, *its_line)
             if found is None:
                 self._given_up()
                 return

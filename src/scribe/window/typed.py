@@ -17,7 +17,6 @@ from braildesk.protocol.requests import Command
 from braildesk.text import limits
 from braildesk.text.characters import visible
 from braildesk.text.sequences import composed, parted
-from braildesk.text.spans import Span
 
 from scribe.window import dialogs
 from scribe.window.book import Done, NotAll, NothingToTakeBack, ChosenParagraph
@@ -46,7 +45,7 @@ _PARAGRAPHS, _ONE = "&Paragraphs", "&One paragraph"
 class Typed:
     """What becomes of what is typed."""
 
-    def __init__(self, desk: Desk, noted: Callable[[Span, str], None]) -> None:
+    def __init__(self, desk: Desk, noted: Callable[[Draft], None]) -> None:
         self.desk = desk
         self._noted = noted
         self._lines = LinesLeft(None)
@@ -230,7 +229,7 @@ class Typed:
         except (Refused, Stop) as stopped:
             raise Stop(f"{stopped.sentence} {desk.put_by(draft)}") from stopped
         if new is None and draft.aim is Aim.NOTE:
-            self._noted(draft.cells or Span(0, 1), draft.text)
+            self._noted(draft)
             return
         lines = [each for each in draft.text.split("\n") if each.strip()]
         if len(lines) > 1:

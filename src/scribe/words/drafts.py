@@ -65,10 +65,16 @@ def what_for(draft: Draft) -> str:
 
 
 def changed_since(draft: Draft, now: str) -> str:
-    """That a print has been changed since a text was typed there, after a blank; or nothing."""
-    if draft.aim.is_new or now == draft.before:
+    """That a print has been changed since a text was typed there, after a blank; or nothing.
+
+    Of a note nothing is said if its words are there still; else they are named.
+    """
+    if draft.aim.is_new or now == draft.before or draft.words_in(now):
         return ""
-    return " The print there has been changed since."
+    its = draft.words
+    words = draft.before[its.start : its.stop] if its else ""
+    was_for = f" The note was typed for {quoted(words)}." if words else ""
+    return f" The print there has been changed since.{was_for}"
 
 
 def without_paragraph(draft: Draft) -> str:
