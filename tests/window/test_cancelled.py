@@ -8,25 +8,34 @@ import time
 from collections.abc import Callable, Iterator, Sequence
 from pathlib import Path
 from threading import Event
+from types import SimpleNamespace
 from typing import Any
 
 import pytest
 from PyQt6.QtCore import Qt, QTimer
 from PyQt6.QtGui import QKeyEvent
+from PyQt6.QtTest import QTest
 from PyQt6.QtWidgets import QApplication, QDialog, QLabel, QPushButton, QWidget
 
 from braildesk import Session, requests
+from braildesk.desk.drafts import Drafts
 
 from scribe.window import dialogs
 from scribe.window.desk import Desk
+from scribe.words.drafts import Unsent
 
-from conftest import Open
+from conftest import Open, wait
 from reader import PATIENCE_SECONDS, Reader
 
 MANY = 300
 #: Stands in the place of the program, and waits where it is told.
 STAND_IN = Path(__file__).resolve().parents[1] / "desk" / "stand_in.py"
 _MOMENT_SECONDS = 0.2
+_ASIDE = (
+    "What came while braildesk didn't answer is set aside: “{}”. Ctrl+B brings it back."
+)
+# its types are those of an object, of which Qt makes none
+_HANDS: Any = QTest
 
 Cancelled = Callable[[str, Callable[[], None]], list[str]]
 
@@ -293,6 +302,107 @@ def test_a_text_that_is_typed_while_something_takes_long_does_not_end_it_and_is_
     said = "What came while braildesk didn't answer is set aside: “It rose.”. Ctrl+B brings it back."
     assert desk.window.message.text == said
     assert [each.text for each in desk.unsent.texts()] == ["It rose."]
+
+
+def _meanwhile(desk: Desk, does: Callable[[QDialog], None]) -> bool:
+    """Does something once a dialog says that something takes long; whether that is ended by it."""
+    done = Event()
+
+    def look() -> None:
+        over = QApplication.activeModalWidget()
+        if (
+            isinstance(over, QDialog)
+            and QApplication.focusWidget()
+            and not done.is_set()
+        ):
+            does(over)
+            done.set()
+
+    def work(say: dialogs.Say, is_stopped: dialogs.IsStopped) -> bool:
+        return done.wait(PATIENCE_SECONDS) and is_stopped()
+
+    timer, ended = QTimer(), list[bool]()
+    timer.timeout.connect(look)
+    timer.start(1)
+    desk.acting(lambda: ended.append(desk.long("Table", work)))
+    timer.stop()
+    return ended == [True]
+
+
+@pytest.mark.parametrize("is_read", [False, True])
+@pytest.mark.parametrize("text", [" und hier", "  und hier"])
+def test_a_text_that_begins_with_a_blank_does_not_end_what_takes_long(
+    desk: Desk, monkeypatch: pytest.MonkeyPatch, text: str, is_read: bool
+) -> None:
+    clock = [0.0]
+    monkeypatch.setattr(dialogs, "time", SimpleNamespace(monotonic=lambda: clock[0]))
+    monkeypatch.setattr(dialogs, "_READING_SECONDS", 3600.0)
+    monkeypatch.setattr(dialogs, "_SHOWN_AFTER_SECONDS", 0)
+
+    def type_on(over: QDialog) -> None:
+        clock[0] = 3600.0 if is_read else 0.0
+        for letter in text:
+            _HANDS.keyClicks(over.focusWidget() or over, letter)
+
+    assert not _meanwhile(desk, type_on)
+    assert desk.window.message.text == _ASIDE.format("und hier")
+    assert [each.text for each in desk.unsent.texts()] == ["und hier"]
+
+
+def test_space_alone_ends_what_takes_long_a_moment_later(
+    application: QApplication, desk: Desk, monkeypatch: pytest.MonkeyPatch
+) -> None:
+    monkeypatch.setattr(dialogs, "_READING_SECONDS", 0.01)
+    monkeypatch.setattr(dialogs, "_SHOWN_AFTER_SECONDS", 0)
+
+    def press(over: QDialog) -> None:
+        button = over.focusWidget()
+        assert isinstance(button, QPushButton)
+        time.sleep(0.02)
+        _HANDS.keyClick(button, Qt.Key.Key_Space)
+        assert button.isEnabled()
+        assert wait(application, 60, lambda: not button.isEnabled())
+
+    assert _meanwhile(desk, press)
+
+
+@pytest.mark.parametrize("text", ["und hier", "x", " so"])
+def test_what_is_typed_once_what_takes_long_is_cancelled_is_set_aside(
+    desk: Desk, monkeypatch: pytest.MonkeyPatch, text: str
+) -> None:
+    monkeypatch.setattr(dialogs, "_SHOWN_AFTER_SECONDS", 0)
+
+    def type_on(over: QDialog) -> None:
+        _HANDS.keyClick(over.focusWidget(), Qt.Key.Key_Escape)
+        for letter in text:
+            _HANDS.keyClicks(over.focusWidget() or over, letter)
+        _HANDS.keyClick(over.focusWidget() or over, Qt.Key.Key_Return)
+
+    assert _meanwhile(desk, type_on)
+    assert desk.window.message.text == _ASIDE.format(text.strip())
+    assert [each.text for each in desk.unsent.texts()] == [text.strip()]
+    assert Drafts(desk.path).unread() is None
+
+
+def test_what_is_typed_while_something_takes_long_outlives_a_kill(
+    moon: Path, at: Open, queue: Path
+) -> None:
+    window, there = _at_a_table(moon, at, queue)
+    window.dialog("Table: please wait")
+    window.type("und hier")
+
+    def is_kept() -> bool:
+        found = Drafts(moon).unread()
+        return found is not None and found.text_of_all == "und hier"
+
+    window.until("it is kept", is_kept)
+    window.kill()
+    os.close(there)
+    # as the next opening has it
+    unsent = Unsent(Drafts(moon))
+    unsent.read()
+    assert f"{unsent.came_last} Ctrl+B brings it back." == _ASIDE.format("und hier")
+    assert [each.text for each in unsent.texts()] == ["und hier"]
 
 
 def test_a_window_that_is_ended_while_it_works_waits_for_no_step_that_has_no_end(

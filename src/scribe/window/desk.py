@@ -357,12 +357,12 @@ class Desk:
         if self.is_closed:
             raise Stop(self.closed)
 
-        def typed(text: str) -> None:
-            draft = self._of_new(text)
-            how = self.aside.result(lambda: self.unsent.put_by(draft), False)
-            self.say_after(f"{came_last(text)} {how or 'Ctrl+B brings it back.'}")
-
-        return dialogs.long(self.window, self.work, title, act, typed)
+        keep = partial(self._keep_at_offer, is_asked=False)
+        try:
+            return dialogs.long(self.window, self.work, title, act, keep)
+        finally:
+            if not self.is_ending:
+                self._put_by_at_offer()
 
     def _say_waiting(self, is_waiting: bool) -> None:
         """Says that the program doesn't answer, until it does.
@@ -980,7 +980,7 @@ class Desk:
 
     def waits_at_once(self) -> str:
         """Keeps what is typed as what waits, once nothing can be shown, and says so if anything is."""
-        draft, held = self.draft(), self._text_held() or self._at_offer
+        draft, held = self.draft(), self._text_elsewhere()
         self.keep_draft(draft)
         # nothing more is done beside the window, which isn't drawn while that is waited for
         self.aside.stop()
@@ -1013,12 +1013,17 @@ class Desk:
         aside = Draft(Aim.AFTER, self.number, self.table_of_typed(), "", text)
         return replace(aside, version=self.contents.version)
 
-    def _keep_held(self) -> None:
-        """Keeps the text that is typed while the window waits, until it is in its place."""
-        self._keep_unread(self._text_held())
+    def _text_elsewhere(self) -> Unread | None:
+        """The text that was typed in a dialog, and after it what is held while the window waits."""
+        held, typed = self._text_held(), self._at_offer
+        if held is None or typed is None:
+            return held or typed
+        text = f"{typed.rest.text}\n{held.text_of_all}"
+        return replace(typed, rest=replace(typed.rest, text=text))
 
-    def _keep_unread(self, held: Unread | None) -> None:
-        """Keeps a text until it is in its place, or nothing."""
+    def _keep_held(self) -> None:
+        """Keeps the text that is typed elsewhere than in its place until it is there, or nothing."""
+        held = self._text_elsewhere()
 
         def look(found: "Future[None]") -> None:
             try:
@@ -1051,28 +1056,29 @@ class Desk:
             self._put_by_at_offer()
         return answer
 
-    def _keep_at_offer(self, text: str) -> None:
-        """Keeps a text that is typed where something is asked, until that is answered."""
+    def _keep_at_offer(self, text: str, is_asked: bool = True) -> None:
+        """Keeps a text that is typed in a dialog until that is answered, or what takes long is over."""
         its = self._of_new(text)
-        self._at_offer = Unread("", its, is_at_offer=True) if text else None
-        self._keep_unread(self._at_offer)
+        self._at_offer = Unread("", its, is_at_offer=is_asked) if text else None
+        self._keep_held()
 
     def _put_by_at_offer(self) -> None:
-        """Gives up a text that was typed where something was asked, and says so."""
+        """Gives up a text that was typed in a dialog, and says so."""
         typed, self._at_offer = self._at_offer, None
         if typed is None:
             return
-        draft = typed.rest
+        draft, held = typed.rest, self._text_held()
 
         def put_by() -> str:
             how = self.unsent.put_by(draft)
             with suppress(NotKept):
-                self.unsent.keep_unread(None)
+                self.unsent.keep_unread(held)
             return how or "Ctrl+B brings it back."
 
         how = self.aside.result(put_by, False)
+        said = typed_at_offer if typed.is_at_offer else came_last
         # also where what was answered is refused
-        self.say_after(f"{typed_at_offer(draft.text)} {how}")
+        self.say_after(f"{said(draft.text)} {how}")
 
     def say_too(self, sentence: str) -> None:
         """Says something after what is said already."""

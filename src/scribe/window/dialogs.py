@@ -51,6 +51,8 @@ IsStopped = Callable[[], bool]
 _READING_SECONDS = 0.3
 # after so long a key that came up isn't one that is repeated
 _REPEAT_MILLISECONDS = 50
+# so many letters a text has at least where one alone may be meant as an answer
+_LEAST_OF_TEXT = 2
 # keys that go from one button to another, of which the last are those of a text too
 _TABS = (Qt.Key.Key_Tab, Qt.Key.Key_Backtab)
 _ARROWS = (*(Qt.Key.Key_Left, Qt.Key.Key_Right), *(Qt.Key.Key_Up, Qt.Key.Key_Down))
@@ -256,13 +258,19 @@ def ask(
 class _Blind(QObject):
     """Takes the text that is typed where buttons have the focus, with the ends of its lines.
 
-    Space alone is no text from when it has been asked for some time, if ever.
+    Space alone is no text from when it has been asked for some time, if ever. A text has so many
+    letters at least.
     """
 
-    def __init__(self, typed: Callable[[str], None], reading: float = math.inf) -> None:
+    def __init__(
+        self,
+        typed: Callable[[str], None],
+        reading: float = math.inf,
+        least: int = _LEAST_OF_TEXT,
+    ) -> None:
         super().__init__()
         self._hand_on = typed
-        self._text = ""
+        self._text, self._least = "", least
         self._reading, self._read_at = reading, math.inf
         # Enter and Space press a button that was gone to
         self._is_gone_to = self._is_said = False
@@ -287,12 +295,12 @@ class _Blind(QObject):
 
     @property
     def _is_text(self) -> bool:
-        """Whether a text is typed: a letter alone is meant as an answer."""
-        return len(self._text.strip()) > 1
+        """Whether a text is typed: a letter alone may be meant as an answer."""
+        return len(self._text.strip()) >= self._least
 
     def eventFilter(self, to: QObject | None, event: QEvent | None) -> bool:
         """Takes letters, what takes them away, and Space and Enter unless a button was gone to."""
-        if not isinstance(to, (QPushButton, QMessageBox)):
+        if not isinstance(to, (QPushButton, QMessageBox, _Progress)):
             return False
         if event is not None and event.type() == QEvent.Type.Show:
             self._read_at = time.monotonic() + self._reading
@@ -663,28 +671,15 @@ class _Lines(QDialog):
 
 
 class _Cancel(QPushButton):
-    """A button that Enter doesn't press, which may be meant for what was there before the dialog.
-
-    Nor does a text, with its blanks, that is typed on by hands that don't know yet of the dialog.
-    """
+    """A button that Enter doesn't press, which may be meant for what was there before the dialog."""
 
     def __init__(self) -> None:
         super().__init__("Cancel")
         self.setAutoDefault(False)
-        self.typed = ""
 
     def keyPressEvent(self, event: QKeyEvent | None) -> None:
         """Presses it by any other key that does so."""
-        if event is None:
-            return
-        is_text = bool(self.typed)
-        if event.key() in ENTER:
-            self.typed += "\n" if is_text else ""
-        elif event.key() == Qt.Key.Key_Backspace:
-            self.typed = self.typed[:-1]
-        elif is_letter(event) and (is_text or event.text() != " "):
-            self.typed += event.text()
-        else:
+        if event is not None and event.key() not in ENTER:
             super().keyPressEvent(event)
 
 
@@ -712,11 +707,6 @@ class _Progress(QDialog):
             height = self.heightForWidth(self.width())
             _fit(self, self.width(), max(self.height(), height))
 
-    @property
-    def typed(self) -> str:
-        """The text that was typed here."""
-        return self._cancel.typed
-
     def reject(self) -> None:
         """Has the work end, for which the dialog waits."""
         self.is_stopped = True
@@ -733,8 +723,8 @@ def long(
 ) -> Result:
     """What comes of something that takes long, with its progress shown, and a button that ends it.
 
-    It is given what to say its progress with, and what says whether it is to end. A text that was
-    typed there is handed on.
+    It is given what to say its progress with, and what says whether it is to end. A text that is
+    typed there, by hands that don't know yet of the dialog, is handed on and presses nothing.
     """
     dialog = _Progress(over, title)
     found: list[Future[Result]] = []
@@ -754,11 +744,10 @@ def long(
     worker.wait_until(lambda: bool(found) or time.monotonic() >= shown_at)
     with _back_to(over, dialog):
         if not found:
-            dialog.exec()
+            with _Blind(typed, _READING_SECONDS, least=1).taking():
+                dialog.exec()
         # if it isn't found the window is being ended, and the work is in the middle of a step
         dialog.is_stopped = True
         worker.wait_until(lambda: bool(found))
     timer.stop()
-    if dialog.typed.strip():
-        typed(dialog.typed.strip())
     return found[0].result()
