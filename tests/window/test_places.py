@@ -1,8 +1,15 @@
 """Places of Qt, which counts in UTF-16, and those of characters; lines that are pasted."""
 
-import pytest
+from collections.abc import Iterator
 
+import pytest
+from PyQt6.QtCore import QMessageLogContext, QtMsgType, qInstallMessageHandler
+from PyQt6.QtWidgets import QApplication
+
+from scribe.window.desk import Desk
 from scribe.window.fields import characters, lines_of, units
+
+from conftest import wait
 
 #: A text, and where Qt counts each of its characters, and its end.
 TEXTS = (
@@ -53,3 +60,28 @@ def test_half_of_a_character_and_what_is_beyond_the_end_have_places(
 )
 def test_lines_that_are_pasted_are_parted(text: str, lines: list[str]) -> None:
     assert lines_of(text) == lines
+
+
+@pytest.fixture
+def warned() -> Iterator[list[str]]:
+    """What Qt warns of."""
+    found: list[str] = []
+
+    def take(kind: QtMsgType, where: QMessageLogContext, text: str | None) -> None:
+        found.append(text or "")
+
+    before = qInstallMessageHandler(take)
+    yield found
+    qInstallMessageHandler(before)
+
+
+def test_no_caret_is_put_beyond_the_braille_of_what_was_typed_and_is_taken_back(
+    application: QApplication, desk: Desk, warned: list[str]
+) -> None:
+    field, cells = desk.window.print, desk.window.cells
+    field.selectAll()
+    field.textCursor().insertText("a")
+    assert wait(application, 60, lambda: len(cells.text) == 1)
+    desk.act("take_back")
+    assert (field.text, len(cells.text)) == ("The Moon", 10)
+    assert [each for each in warned if "out of range" in each] == []

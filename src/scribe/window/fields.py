@@ -166,9 +166,12 @@ class Field(QPlainTextEdit):
             self.setPlainText(text)
 
     def put_caret(self, place: int) -> None:
-        """Puts the caret on a character, and selects nothing."""
-        cursor = self.textCursor()
-        unit = units(self.text, place)
+        """Puts the caret on a character, and selects nothing.
+
+        The text may be shorter than the one of which the place is known.
+        """
+        cursor, text = self.textCursor(), self.text
+        unit = units(text, min(place, len(text)))
         if cursor.position() != unit or cursor.hasSelection():
             cursor.setPosition(unit)
             self.setTextCursor(cursor)
