@@ -2,10 +2,12 @@
 
 from collections.abc import Callable, Iterator
 from pathlib import Path
+from typing import Any
 
 import pytest
 from PyQt6.QtCore import QMimeData, QPoint, QPointF, Qt, QTimer, QUrl
 from PyQt6.QtGui import QDragEnterEvent, QDragMoveEvent, QDropEvent, QImage
+from PyQt6.QtTest import QTest
 from PyQt6.QtWidgets import QApplication, QDialog, QLineEdit, QWidget
 
 from scribe.window import dialogs
@@ -473,3 +475,19 @@ def test_what_is_dropped_and_is_too_much_can_be_brought_back(
     lines = given_up.text.split("\n")
     assert "".join(lines).replace(" ", "") == text.replace(" ", "")
     assert max(map(len, lines)) <= 4_000
+
+
+@pytest.mark.parametrize("part", ["table", "cells"])
+def test_what_is_pasted_where_no_text_is_typed_is_said_to_be_nowhere(
+    desk: Desk, part: str
+) -> None:
+    clipboard = QApplication.clipboard()
+    assert clipboard is not None
+    clipboard.setText("One.\nTwo.")
+    hands: Any = QTest
+    its = getattr(desk.window, part)
+    its.setFocus()
+    hands.keyClick(its, Qt.Key.Key_V, Qt.KeyboardModifier.ControlModifier)
+    said = "Nothing was pasted: a text goes into the print. F2 goes there."
+    assert desk.window.message.text == said
+    assert (desk.window.print.text, desk.contents.version) == ("The Moon", 5)

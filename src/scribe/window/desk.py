@@ -79,6 +79,7 @@ CLOSED = "The book is closed: Open the book again, in the menu Book, opens it."
 _GONE = "The book is closed: Its file isn't at “{path}” any more. {then}"
 _THEN = "Open the book again, in the menu Book, opens it once it is there again."
 _SAVED = "All of the book is in “{saved}”, which scribe window opens."
+_NOT_PASTED = "Nothing was pasted: a text goes into the print. F2 goes there."
 _NOT_SHOWN = "has a character that a window can't show. scribe edit changes it."
 _ONLY_HERE = (
     "What is typed can't be kept elsewhere: it is lost if the window is closed."
@@ -212,6 +213,7 @@ class Desk:
         # Enter is where the print is typed, as on the screen
         window.table.activated.connect(lambda _: self.act("to_print"))
         window.covered.connect(self._cover)
+        window.pasted.connect(lambda: self.refuse(_NOT_PASTED))
         window.cells.entered.connect(lambda: self.act("to_print"))
 
     def _look_at_end(self) -> None:

@@ -11,6 +11,7 @@ from PyQt6.QtGui import (
     QDropEvent,
     QFont,
     QKeyEvent,
+    QKeySequence,
     QResizeEvent,
 )
 from PyQt6.QtWidgets import (
@@ -63,6 +64,8 @@ class Window(QMainWindow):
 
     #: A file was dropped on the window.
     dropped = pyqtSignal(Path)
+    #: Something was pasted into the paragraphs or the braille.
+    pasted = pyqtSignal()
     #: A dialog was opened over the window, or none is any more.
     covered = pyqtSignal(bool)
 
@@ -264,6 +267,9 @@ class Window(QMainWindow):
         return {"print": self.print, "cells": self.cells, "page": self.page}
 
     def _letter(self, event: QKeyEvent) -> bool:
+        if event.matches(QKeySequence.StandardKey.Paste):
+            self.pasted.emit()
+            return True
         return self.menus.letter(event)
 
     def dragEnterEvent(self, event: QDragEnterEvent | None) -> None:
