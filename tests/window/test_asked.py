@@ -1,5 +1,7 @@
 """What is typed on where the window asks something: it answers nothing, and is set aside."""
 
+import signal
+import time
 from collections.abc import Callable
 from pathlib import Path
 from types import SimpleNamespace
@@ -9,7 +11,14 @@ import pytest
 from PyQt6.QtCore import QEvent, Qt, QTimer
 from PyQt6.QtGui import QKeyEvent
 from PyQt6.QtTest import QTest
-from PyQt6.QtWidgets import QApplication, QMessageBox, QPushButton, QWidget
+from PyQt6.QtWidgets import (
+    QApplication,
+    QLineEdit,
+    QMainWindow,
+    QMessageBox,
+    QPushButton,
+    QWidget,
+)
 
 from braildesk import Style, requests
 from braildesk.desk.draft import Aim, Draft
@@ -19,14 +28,19 @@ from braildesk.desk.layout import PageSize
 from scribe.window import dialogs
 from scribe.window.desk import Desk
 from scribe.window.files import Files
+from scribe.window.held import Held
 
-from conftest import Open, prints
+import test_held
+from conftest import Open, prints, wait
 from reader import Reader
 
 _NO_ANSWER = "What is typed here is no answer. Tab goes to one, and Enter gives it."
 _ASIDE = "What was typed at the question is set aside: “{}”. Ctrl+B brings it back."
 # its types are those of an object, of which Qt makes none
 _HANDS: Any = QTest
+_RETURN = 0xFF0D
+# by then what was pressed has come
+_MOMENT_SECONDS = 0.2
 # more than a paragraph has room for
 _LONG = " ".join(["abcdefghi"] * 520)
 
@@ -321,6 +335,34 @@ def test_a_space_is_held_no_longer_once_another_key_is_pressed(
     assert dialogs.ask(over, "Change", "So?", answers, lambda text: None) == answer
 
 
+@pytest.mark.parametrize("text", ["und hier", "hallo du da", "x"])
+def test_what_is_typed_before_a_question_is_there_answers_nothing_and_is_set_aside(
+    application: QApplication, monkeypatch: pytest.MonkeyPatch, text: str
+) -> None:
+    monkeypatch.setattr(test_held, "_PACE_SECONDS", 0.0)
+    over, field, held = QMainWindow(), QLineEdit(), Held()
+    over.setCentralWidget(field)
+    over.show()
+    over.activateWindow()
+    assert wait(application, 60, field.hasFocus)
+    typed, kept = list[str](), list[str]()
+
+    def answer(button: QPushButton, box: QMessageBox) -> None:
+        kept.extend(typed[-1:])
+        # as the question stands once something was typed before it
+        assert wait(application, 60, lambda: box.text().endswith(_NO_ANSWER))
+        _HANDS.keyClick(box.focusWidget(), Qt.Key.Key_Return)
+
+    test_held.press_at_once([*map(ord, text), _RETURN])
+    time.sleep(_MOMENT_SECONDS)
+    _at_question(answer)
+    its = over, "Lines", "What are they?", ("&Paragraphs", "&One", "&Neither")
+    assert dialogs.ask(*its, typed.append, held.holding) == 2
+    held.stop()
+    assert kept == [text if len(text) > 1 else ""]
+    assert field.text() == ""
+
+
 def _of_lines(window: Reader) -> None:
     # the lines of a report are copied, and pasted into a new paragraph
     window.press("F1")
@@ -370,6 +412,27 @@ def test_what_hands_type_on_at_a_question_of_a_window_is_brought_back(
     assert text in [each.text for each in Drafts(moon).given_up()]
     window.kill()
     assert len(prints(moon)) == 3
+
+
+def test_what_hands_type_before_a_question_of_a_window_is_there_is_brought_back(
+    moon: Path, at: Open
+) -> None:
+    window = at(moon)
+    window.press("Ctrl+Return")
+    window.focus("text", "Print")
+    window.insert("Print", _LONG)
+    window.reads("Print", _LONG)
+    # as a machine that has much to do hands keys on
+    window.program.send_signal(signal.SIGSTOP)
+    window.press("Return")
+    window.type("abcde fghij")
+    window.press("Return")
+    window.program.send_signal(signal.SIGCONT)
+    window.dialog("A long paragraph")
+    window.press("Return")
+    window.no_dialog()
+    window.says(_ASIDE.format("abcde fghij"))
+    window.reads("Print", _LONG)
 
 
 def test_what_is_typed_on_at_a_question_is_kept_also_where_the_program_is_killed(

@@ -205,7 +205,7 @@ def test_a_file_that_is_dropped_while_something_else_is_done_is_said_to_be_left(
 def test_a_text_that_is_typed_at_an_offer_is_said_to_be_given_up_after_a_refusal(
     desk: Desk, monkeypatch: pytest.MonkeyPatch
 ) -> None:
-    def typed(*words: Any) -> int:
+    def typed(*words: Any, **_: Any) -> int:
         words[-1]("The sea.")
         return 0
 

@@ -1045,7 +1045,7 @@ class Desk:
         """The answer to what no key has asked for; a text that was typed there is given up."""
         self._is_offering = True
         its = self.window, title, asked, answers, self._keep_at_offer
-        answer = offer(*its, *by_enter)
+        answer = offer(*its, *by_enter, holding=self.held.holding)
         if not self.is_ending:
             self._is_offering = False
             self._put_by_at_offer()
@@ -1053,7 +1053,8 @@ class Desk:
 
     def answer(self, title: str, asked: str, answers: Sequence[str]) -> int:
         """The answer to what a key has asked for; a text that was typed on there is given up."""
-        answer = ask(self.window, title, asked, answers, self._keep_at_offer)
+        its = self.window, title, asked, answers, self._keep_at_offer
+        answer = ask(*its, self.held.holding)
         if not self.is_ending:
             self._put_by_at_offer()
         return answer

@@ -4,11 +4,13 @@ import math
 import time
 from collections.abc import Callable, Iterator, Sequence
 from concurrent.futures import Future
-from contextlib import contextmanager
+from contextlib import AbstractContextManager, contextmanager
+from functools import partial
 from pathlib import Path
 from typing import TypeVar
 
 from PyQt6.QtCore import (
+    QCoreApplication,
     QEvent,
     QItemSelectionModel,
     QModelIndex,
@@ -17,7 +19,7 @@ from PyQt6.QtCore import (
     Qt,
     QTimer,
 )
-from PyQt6.QtGui import QFocusEvent, QFont, QInputMethodEvent, QKeyEvent
+from PyQt6.QtGui import QFocusEvent, QFont, QInputMethodEvent, QKeyEvent, QWindow
 from PyQt6.QtWidgets import (
     QApplication,
     QCheckBox,
@@ -45,6 +47,8 @@ Result = TypeVar("Result")
 Part = TypeVar("Part", bound=QWidget)
 #: Says how far something is that takes long; and whether it is to end.
 Say = Callable[[str], None]
+#: Holds what is pressed, for a while.
+Holding = Callable[[], AbstractContextManager[None]]
 IsStopped = Callable[[], bool]
 # for so long a question stands before Space alone, which may come from a text, is an answer to it, and
 # for so long no letter comes after it then
@@ -230,13 +234,14 @@ def offer(
     answers: Sequence[str],
     typed: Callable[[str], None],
     *by_enter: int,
+    holding: Holding | None = None,
 ) -> int:
     """Asks what no key has asked for: a text that is typed on there is no answer, and is handed on.
 
     Qt would take the first letter of an answer for it, Space for the answer that has the focus, and the
     Enter after the text too.
     """
-    with _Blind(typed).taking():
+    with _Blind(typed, holding=holding).taking():
         return choice(over, title, sentence, answers, *by_enter)
 
 
@@ -246,12 +251,13 @@ def ask(
     sentence: str,
     answers: Sequence[str],
     typed: Callable[[str], None],
+    holding: Holding | None = None,
 ) -> int:
     """Asks what a key has asked for: the same, but Space alone answers once that could be read.
 
     It is the first of a text if a letter comes soon after it.
     """
-    with _Blind(typed, _READING_SECONDS).taking():
+    with _Blind(typed, _READING_SECONDS, holding=holding).taking():
         return choice(over, title, sentence, answers)
 
 
@@ -267,10 +273,15 @@ class _Blind(QObject):
         typed: Callable[[str], None],
         reading: float = math.inf,
         least: int = _LEAST_OF_TEXT,
+        holding: Holding | None = None,
     ) -> None:
         super().__init__()
         self._hand_on = typed
         self._text, self._least = "", least
+        # the dialog, once it is about to be shown; and what holds all else that is pressed until then,
+        # where nothing closes it meanwhile
+        self._dialog: QDialog | None = None
+        self._holding = holding
         self._reading, self._read_at = reading, math.inf
         # Enter and Space press a button that was gone to
         self._is_gone_to = self._is_said = False
@@ -300,22 +311,49 @@ class _Blind(QObject):
 
     def eventFilter(self, to: QObject | None, event: QEvent | None) -> bool:
         """Takes letters, what takes them away, and Space and Enter unless a button was gone to."""
-        if not isinstance(to, (QPushButton, QMessageBox, _Progress)):
+        if event is not None and isinstance(to, QWindow):
+            return self._is_from_before(to, event)
+        if event is None or not isinstance(to, (QPushButton, QMessageBox, _Progress)):
             return False
-        if event is not None and event.type() == QEvent.Type.Show:
+        if event.type() == QEvent.Type.Show:
             self._read_at = time.monotonic() + self._reading
+            if isinstance(to, QDialog):
+                self._take_until_shown(to)
         if self._is_held(to, event):
             return True
         text = self._after(event)
-        if text is None:
-            return False
+        if text is not None and self._takes(text):
+            self._say(to)
+        return text is not None
+
+    def _takes(self, text: str) -> bool:
+        """Takes a text as it is after what came; whether that may be meant to press a button."""
         is_typed = len(text) > len(self._text)
         self._text = text
         self._is_gone_to = self._is_gone_to and not is_typed
         self._hand_on(text.strip() if self._is_text else "")
-        if text.endswith("\n") or not text.strip() and is_typed:
-            self._say(to)
-        return True
+        return text.endswith("\n") or not text.strip() and is_typed
+
+    def _take_until_shown(self, dialog: QDialog) -> None:
+        """Takes what was pressed until a dialog is shown: Qt drops what comes beneath it after that."""
+        self._dialog = dialog
+        if self._holding is not None:
+            with self._holding():
+                QCoreApplication.processEvents()
+
+    def _is_from_before(self, to: QWindow, event: QEvent) -> bool:
+        """Whether text came to a window beneath, where hands typed before the dialog was there."""
+        dialog = self._dialog
+        if dialog is None or to is dialog.windowHandle():
+            return False
+        if not isinstance(event, QKeyEvent) or event.type() != QEvent.Type.KeyPress:
+            return False
+        is_of_text = is_letter(event) or event.key() in (*ENTER, Qt.Key.Key_Backspace)
+        text = self._after(event) if is_of_text else None
+        if text is not None and self._takes(text):
+            # what is said changes the dialog, which has to be there
+            QTimer.singleShot(0, partial(self._say, dialog))
+        return text is not None
 
     def _is_held(self, to: QObject, event: QEvent | None) -> bool:
         """Whether Space, which may begin a text, is held; what is pressed after it ends that."""
