@@ -13,7 +13,9 @@ from PyQt6.QtGui import QKeyEvent
 from PyQt6.QtTest import QTest
 from PyQt6.QtWidgets import (
     QApplication,
+    QLabel,
     QLineEdit,
+    QListWidget,
     QMainWindow,
     QMessageBox,
     QPushButton,
@@ -161,6 +163,85 @@ def test_a_text_that_is_typed_on_at_a_question_answers_nothing_and_is_set_aside(
     assert Drafts(desk.path).unread() is None
     if ask not in (_take_back, _part):
         assert desk.asked(desk.book.contents).version == version
+
+
+def _at_names(does: Callable[[QListWidget], None]) -> None:
+    """Does something once one of several names can be chosen."""
+
+    def look() -> None:
+        names = QApplication.focusWidget()
+        if isinstance(names, QListWidget) and QApplication.activeModalWidget():
+            does(names)
+        else:
+            QTimer.singleShot(10, look)
+
+    QTimer.singleShot(0, look)
+
+
+@pytest.mark.parametrize("text", ["und hier", "2 go", "It rose"])
+def test_a_text_that_is_typed_on_at_the_texts_to_bring_back_chooses_none_of_them(
+    desk: Desk, text: str
+) -> None:
+    seen = list[str]()
+
+    def type_on(names: QListWidget) -> None:
+        dialog = names.window()
+        for letter in text:
+            _HANDS.keyClicks(names, letter)
+        # the first one belongs to the text
+        for _ in range(2):
+            if dialog.isVisible():
+                (label,) = dialog.findChildren(QLabel)
+                assert isinstance(label, QLabel)
+                seen.append(label.text())
+                _HANDS.keyClick(dialog.focusWidget(), Qt.Key.Key_Return)
+
+    for line in ("It rose.", "It set."):
+        desk.put_by(Draft(Aim.AFTER, 1, "en", "", line))
+    _at_names(type_on)
+    desk.act("bring_back")
+    asked = "Which text shall be typed further?"
+    said = "What is typed here is no answer. Tab goes back, and Enter gives what is chosen."
+    assert seen == [asked, f"{asked}\n\n{said}"]
+    assert desk.window.message.text == _ASIDE.format(text)
+    assert not desk.is_typed() and desk.new is None
+    given_up = [each.text for each in Drafts(desk.path).given_up()]
+    assert given_up == [text, "It set.", "It rose."]
+    assert Drafts(desk.path).unread() is None
+
+
+@pytest.mark.parametrize(
+    "keys, name",
+    [
+        ([Qt.Key.Key_Return], "1. so"),
+        ([Qt.Key.Key_Down, Qt.Key.Key_Return], "2. or so"),
+        ([Qt.Key.Key_3, Qt.Key.Key_Return], "3. not so"),
+        ([Qt.Key.Key_Space, Qt.Key.Key_Return], "1. so"),
+        # a key that goes to a name ends the text
+        ([Qt.Key.Key_X, Qt.Key.Key_Y, Qt.Key.Key_Down, Qt.Key.Key_Return], "2. or so"),
+        ([Qt.Key.Key_Tab, Qt.Key.Key_Tab, Qt.Key.Key_Return], None),
+        ([Qt.Key.Key_Down, Qt.Key.Key_Escape], None),
+    ],
+)
+def test_of_names_one_is_chosen_by_keys_that_type_nothing_and_by_its_number(
+    application: QApplication,
+    monkeypatch: pytest.MonkeyPatch,
+    keys: list[Qt.Key],
+    name: str | None,
+) -> None:
+    monkeypatch.setattr(dialogs, "_READING_SECONDS", 0.0)
+    over = QWidget()
+
+    def press(names: QListWidget) -> None:
+        dialog = names.window()
+        for key in keys:
+            _HANDS.keyClick(dialog.focusWidget(), key)
+        assert not dialog.isVisible()
+
+    _at_names(press)
+    names = ["1. so", "2. or so", "3. not so"]
+    with dialogs.taking(lambda text: None):
+        assert dialogs.one_of(over, "Bring back", "Which?", names, 0) == name
 
 
 @pytest.mark.parametrize(

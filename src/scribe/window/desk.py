@@ -1059,6 +1059,14 @@ class Desk:
             self._put_by_at_offer()
         return answer
 
+    def one_of(self, title: str, asked: str, names: Sequence[str]) -> str | None:
+        """One of several names, none where it is given up; as is a text that was typed on there."""
+        with dialogs.taking(self._keep_at_offer):
+            name = dialogs.one_of(self.window, title, asked, names, 0)
+        if not self.is_ending:
+            self._put_by_at_offer()
+        return name
+
     def _keep_at_offer(self, text: str, is_asked: bool = True) -> None:
         """Keeps a text that is typed in a dialog until that is answered, or what takes long is over."""
         its = self._of_new(text)

@@ -62,6 +62,9 @@ _TABS = (Qt.Key.Key_Tab, Qt.Key.Key_Backtab)
 _ARROWS = (*(Qt.Key.Key_Left, Qt.Key.Key_Right), *(Qt.Key.Key_Up, Qt.Key.Key_Down))
 # what is said where a text or Space came that answers nothing
 _NO_ANSWER = "What is typed here is no answer. Tab goes to one, and Enter gives it."
+_NO_NAME = (
+    "What is typed here is no answer. Tab goes back, and Enter gives what is chosen."
+)
 # when a dialog of progress is shown, and how often what it says is looked at
 _SHOWN_AFTER_SECONDS = 0.4
 _PACE_MILLISECONDS = 100
@@ -313,7 +316,7 @@ class _Blind(QObject):
         """Takes letters, what takes them away, and Space and Enter unless a button was gone to."""
         if event is not None and isinstance(to, QWindow):
             return self._is_from_before(to, event)
-        if event is None or not isinstance(to, (QPushButton, QMessageBox, _Progress)):
+        if event is None or not isinstance(to, (QPushButton, QDialog, _Names)):
             return False
         if event.type() == QEvent.Type.Show:
             self._read_at = time.monotonic() + self._reading
@@ -436,6 +439,49 @@ class _Blind(QObject):
         last.setFocus()
         box.setText(f"{box.text()}\n\n{_NO_ANSWER}")
         _fit(box)
+
+
+def taking(typed: Callable[[str], None]) -> AbstractContextManager[None]:
+    """Hands on a text that is typed on where one of several names is asked for meanwhile."""
+    return _BlindAtNames(typed, _READING_SECONDS).taking()
+
+
+class _BlindAtNames(_Blind):
+    """The same at names, where arrow keys go from one to another, and digits to the one of a number."""
+
+    def eventFilter(self, to: QObject | None, event: QEvent | None) -> bool:
+        """Takes letters, and digits with those that come after them."""
+        is_key = isinstance(event, QKeyEvent) and event.type() == QEvent.Type.KeyPress
+        if isinstance(to, _Names) and isinstance(event, QKeyEvent) and is_key:
+            number = self._text + event.text()
+            if is_letter(event) and number.isdigit():
+                self._text = number
+                return False
+        return super().eventFilter(to, event)
+
+    def _after(self, event: QEvent | None) -> str | None:
+        if isinstance(event, QKeyEvent) and event.type() == QEvent.Type.KeyPress:
+            is_enter = event.key() in ENTER and self._text.isdigit()
+            if event.key() in _ARROWS or is_enter:
+                self._is_gone_to = True
+                return None
+        return super()._after(event)
+
+    def _say(self, to: QWidget) -> None:
+        """Says once that no name was chosen, and goes each time to the button that chooses none."""
+        dialog = to.window()
+        if not isinstance(dialog, QDialog):
+            return
+        label, buttons = _within(dialog, QLabel)[0], _within(dialog, QDialogButtonBox)
+        last = buttons[0].button(QDialogButtonBox.StandardButton.Cancel)
+        assert last is not None
+        last.setFocus()
+        if self._is_said:
+            return
+        self._is_said = True
+        last.setAccessibleDescription(_NO_NAME)
+        label.setText(f"{label.text()}\n\n{_NO_NAME}")
+        _fit(dialog, dialog.width(), dialog.height())
 
 
 def text(

@@ -18,7 +18,6 @@ from braildesk.text import limits
 from braildesk.text.characters import visible
 from braildesk.text.sequences import composed, parted
 
-from scribe.window import dialogs
 from scribe.window.book import Done, NotAll, NothingToTakeBack, ChosenParagraph
 from scribe.window.desk import Desk, New
 from scribe.window.dialogs import IsStopped, Say
@@ -194,7 +193,7 @@ class Typed:
             raise Stop("No text was given up in this book.")
         names = [f"{n}. {what_for(t)}: {in_short(t)}" for n, t in enumerate(texts, 1)]
         asked = "Which text shall be typed further?"
-        name = dialogs.one_of(desk.window, "Bring back a text", asked, names, 0)
+        name = desk.one_of("Bring back a text", asked, names)
         if name is not None:
             draft = texts[names.index(name)]
             changed = self.changed_since(draft)
