@@ -4,6 +4,7 @@ import os
 import shutil
 import signal
 import sys
+import time
 from collections.abc import Iterator
 from pathlib import Path
 
@@ -685,6 +686,36 @@ def test_a_talk_that_is_told_to_end_while_it_is_stopped_ends(
     shell.expect_exact("$ ")
     end(shell)
     assert talk_about(moon).greeting[-1] == "type end en It is "
+
+
+def test_what_was_pasted_and_not_read_as_a_talk_is_told_to_end_is_carried_out_by_no_shell(
+    moon: Path,
+) -> None:
+    settings = environment(**OF_SHELL)
+    words = ["--norc", "--noprofile", "-i"]
+    shell = at_terminal("bash", *words, settings=settings, folder=moon.parent)
+    shell.expect_exact("$ ")
+    shell.sendline(f"'{sys.executable}' -m scribe talk moon.braildesk")
+    shell.expect_exact("> ")
+    talk, program = map(child_of, (shell.pid, child_of(shell.pid)))
+    # so that no line is answered before the end
+    os.kill(program, signal.SIGSTOP)
+    lines = ["type end en It is far.", "echo far > shell", "print 1"]
+    shell.send("\r".join([*lines, "strike"]))
+    shell.expect_exact(lines[0])
+    time.sleep(0.2)
+    os.kill(talk, signal.SIGTERM)
+    shell.expect_exact("Stopped by SIGTERM.")
+    shell.expect_exact("$ ")
+    end(shell)
+    assert not moon.with_name("shell").exists()
+    once_free(moon).close()
+    assert talk_about(moon).greeting[-4:] == [*lines, "strike"]
+
+
+def child_of(process: int) -> int:
+    """The only process that another one began and has still."""
+    return int(Path(f"/proc/{process}/task/{process}/children").read_text())
 
 
 def test_the_end_of_the_input_ends_the_talk(talk: Prompted, moon: Path) -> None:

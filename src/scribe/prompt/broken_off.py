@@ -48,9 +48,12 @@ class BrokenOff(AbstractContextManager["BrokenOff"]):
         if self._lines is None or kind is None:
             return
         its = self._conversation
-        typed = [*its.typed, self._lines.broken_off]
+        # the lines that came after that are for no shell, which would carry them out
+        last, *rest = (self._lines.broken_off + self._lines.rest()).split("\n")
+        typed = [*its.typed, last]
         if not its.may_change:
             typed = typed[-1:]
+        typed += rest
         new = [each for each in typed if each.strip()]
         # a short answer is lacking to the command before it; a short line alone is typed anew
         if len(new) > 1 or any(len(each.strip()) > FEW for each in new):

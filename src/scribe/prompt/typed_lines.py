@@ -8,6 +8,8 @@ else goes on is kept as well.
 
 import locale
 import os
+import re
+import select
 import signal
 import sys
 import termios
@@ -22,6 +24,10 @@ from scribe.words.status import Interrupted, Stop, not_loaded
 
 # how often, in seconds, a line is noted, and it is asked whether something came about before it is begun
 _TICK = 0.5
+# how long more of a paste is waited for, in seconds, and how much of it is read at once
+_LULL, _READ_BYTES = 0.05, 1 << 16
+# what tells where a paste begins and ends, and keys that are no text
+_NO_TEXT = re.compile(r"\x1b\[20[01]~|[\x00-\x08\x0b\x0c\x0e-\x1f\x7f]")
 _SETTINGS = (
     # pasted lines are lines of their own, and nothing is written that isn't text
     "set enable-bracketed-paste off",
@@ -185,6 +191,19 @@ class TypedLines(AbstractContextManager["TypedLines"]):
         with suppress(UnicodeEncodeError):
             self._readline.add_history(line)
 
+    def rest(self) -> str:
+        """What came and wasn't read, which a shell would take for commands of its own."""
+        found = b""
+        # a terminal that was closed has none, and what a shell has by now is for that
+        with suppress(OSError):
+            while os.tcgetpgrp(0) == os.getpgrp() and _has_more():
+                part = os.read(0, _READ_BYTES)
+                if not part:
+                    break
+                found += part
+        text = _NO_TEXT.sub("", found.decode(errors="replace"))
+        return text.replace("\r", "\n")
+
     def _begin(self) -> None:
         self._is_begun = True
 
@@ -266,6 +285,11 @@ class TypedLines(AbstractContextManager["TypedLines"]):
             mode[3] = mode[3] | termios.ECHO if echoes else mode[3] & ~termios.ECHO
             mode[6][termios.VMIN], mode[6][termios.VTIME] = 1, 0
             termios.tcsetattr(0, termios.TCSADRAIN, mode)
+
+
+def _has_more() -> bool:
+    """Whether more of what was typed or pasted comes at once."""
+    return bool(select.select([0], [], [], _LULL)[0])
 
 
 def are_typed() -> bool:
