@@ -1,6 +1,7 @@
 """Tables of strangers: none takes more time and memory than the best of liblouis's own."""
 
 import os
+import re
 import resource
 import signal
 import subprocess
@@ -127,6 +128,36 @@ def worker_words() -> list[str]:
     """The words of the command that asks liblouis for this process."""
     worker = Path(oracle.__file__).with_name("worker.py")
     return confined([sys.executable, "-I", str(worker)], Limits(oracle.MEMORY))
+
+
+#: Says which signal a program gets as its starter ends (PR_GET_PDEATHSIG), and what it may have at most.
+TELLS = """
+import ctypes, resource
+number = ctypes.c_int()
+ctypes.CDLL(None).prctl(2, ctypes.byref(number), 0, 0, 0)
+most = (resource.RLIMIT_AS, resource.RLIMIT_CPU, resource.RLIMIT_FSIZE, resource.RLIMIT_CORE)
+print(number.value, *(resource.getrlimit(each)[0] for each in most))
+"""
+
+
+def test_a_confined_program_has_its_limits_and_is_ended_with_its_starter() -> None:
+    limits = Limits(1 << 29, 7, 1 << 20)
+    words = confined([sys.executable, "-I", "-c", TELLS], limits)
+    done = subprocess.run(words, capture_output=True, text=True, timeout=SECONDS)
+    assert done.stdout == f"{signal.SIGKILL:d} {1 << 29} 7 {1 << 20} 0\n"
+
+
+def test_what_asks_liblouis_may_have_no_more_than_a_table_takes(tmp_path: Path) -> None:
+    table = tmp_path / "own.utb"
+    table.write_text("letter a 1\n", encoding="utf-8")
+    with Liblouis(table) as liblouis:
+        running = liblouis._process._running
+        assert running is not None
+        listed = Path(f"/proc/{running.pid}/limits").read_text()
+    found = dict(re.findall(r"(?m)^Max (cpu time|address space) +(\d+) ", listed))
+    assert int(found["address space"]) <= oracle.MEMORY
+    # those of the reading, and what it had taken before
+    assert 0 < int(found["cpu time"]) < SECONDS
 
 
 def test_a_worker_whose_starter_has_ended_asks_nothing() -> None:
