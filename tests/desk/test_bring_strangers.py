@@ -205,7 +205,10 @@ def test_no_process_is_left_where_the_reading_of_a_table_is_broken_off(
 def test_what_asks_liblouis_takes_no_module_of_the_folder_it_is_started_in(
     tmp_path: Path, monkeypatch: pytest.MonkeyPatch
 ) -> None:
-    (tmp_path / "json.py").write_text("raise SystemExit\n", encoding="utf-8")
+    # of what it imports itself, and of what it is begun by
+    for name in ("json", "louis", "ctypes", "dataclasses", "resource"):
+        strange = tmp_path / f"{name}.py"
+        strange.write_text("raise SystemExit\n", encoding="utf-8")
     monkeypatch.chdir(tmp_path)
     monkeypatch.setenv("PYTHONPATH", os.pathsep)
     with pytest.raises(NoLiblouis, match="refuses the table"):
