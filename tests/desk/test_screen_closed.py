@@ -224,6 +224,30 @@ def test_what_the_system_refuses_is_said_and_the_screen_stays(
     assert terminal.said == ""
 
 
+@pytest.mark.parametrize("code", ["ENOSPC", "EIO"])
+def test_what_the_system_refuses_beside_the_keys_is_said_and_the_screen_stays(
+    moon: Path, at: Open, code: str
+) -> None:
+    folder = moon.parent
+    # the place is kept once the cursor rests, and then again
+    (folder / "sitecustomize.py").write_text(
+        "import errno, os\n"
+        "from scribe.screen.desk import Desk\n\n"
+        "kept = Desk.keep_place\n\n"
+        "def keep_place(self, state):\n"
+        "    Desk.keep_place = kept\n"
+        f"    raise OSError(errno.{code}, os.strerror(errno.{code}))\n\n"
+        "Desk.keep_place = keep_place\n"
+    )
+    terminal = at(moon, PYTHONPATH=f"{folder}:{ROOT / 'src'}")
+    terminal.wait("The system failed: ")
+    terminal.keys("s")
+    terminal.wait("kept: paragraph 1 struck")
+    terminal.keys("q")
+    assert terminal.ended() == 0
+    assert terminal.said == ""
+
+
 def test_a_fault_of_scribe_ends_the_screen_in_words_and_keeps_what_is_typed(
     moon: Path, at: Open
 ) -> None:
