@@ -14,6 +14,7 @@ from pathlib import Path
 import pytest
 from hypothesis import HealthCheck, given, settings, strategies as st
 
+from braildesk.desk import own_folder
 from braildesk.desk.draft import Aim, Draft, draft_in
 from braildesk.desk.drafts import Begun, Drafts, NotKept, NotSaved
 from braildesk.desk.import_note import note_in
@@ -556,6 +557,27 @@ def test_what_lies_beside_the_book_and_is_no_text_of_ones_own_stays_as_it_is(
         before.st_size,
         before.st_mtime_ns,
     )
+
+
+def test_a_link_that_is_put_there_as_a_text_is_opened_is_not_followed(
+    moon: Path, beside: Path, store: Path, monkeypatch: pytest.MonkeyPatch
+) -> None:
+    other = moon.with_name("other")
+    for path in (beside, other):
+        path.write_text(forged())
+    judge = own_folder._refuse
+
+    def judged(found: os.stat_result) -> None:
+        judge(found)
+        if not beside.is_symlink():
+            beside.unlink()
+            beside.symlink_to(other)
+
+    monkeypatch.setattr(own_folder, "_refuse", judged)
+    with pytest.raises(NotKept):
+        Drafts(moon).take_in()
+    assert beside.is_symlink() and other.read_text() == forged()
+    assert Drafts(moon).waiting() is None
 
 
 def test_a_folder_in_the_place_of_a_text_that_waits_is_set_aside(
