@@ -509,6 +509,36 @@ def test_a_descriptor_that_is_closed_is_said_or_does_not_matter(
         assert ran.shown
 
 
+#: Has descriptors be closed, and says the number that the first file gets which is opened then.
+OPENS = """
+import os, sys
+from scribe.cli.endings import ended
+
+def run():
+    os.write(int(sys.argv[1]), str(os.open(os.devnull, os.O_RDWR)).encode())
+    return 0
+
+for number in sys.argv[2:]:
+    os.close(int(number))
+os._exit(ended(run, lambda: False))
+"""
+
+
+@pytest.mark.parametrize("closed", ["0", "1", "2", "02", "12", "012"])
+def test_no_file_gets_the_number_of_a_descriptor_that_is_closed(closed: str) -> None:
+    # what is said would be written into it, or what it has be read as what was typed
+    reader, writer = os.pipe()
+    done = subprocess.run(
+        [sys.executable, "-c", OPENS, str(writer), *closed],
+        env=environment(),
+        pass_fds=[writer],
+    )
+    os.close(writer)
+    with open(reader, encoding="utf-8") as numbers:
+        assert int(numbers.read()) > 2
+    assert done.returncode == 0
+
+
 def test_errors_that_can_not_be_written_end_with_3(moon: Path) -> None:
     with open("/dev/full", "w") as full:
         done = subprocess.run(
