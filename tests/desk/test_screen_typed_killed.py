@@ -5,7 +5,7 @@ kills itself at another moment: before one of the calls of the system by which a
 or sent. So no second passes, and the same moment is the same place of the code. What the screen
 said before the end is compared with the book and with the texts that are kept. The first moments
 are those at which a file gets or loses its name; `KILLS` in the environment says how many there are,
-and 200 are all.
+and 300 are all.
 """
 
 import json
