@@ -8,6 +8,7 @@ import sys
 import time
 from collections.abc import Iterator, Sequence
 from pathlib import Path
+from threading import Event
 
 import pytest
 from PyQt6.QtCore import QCoreApplication, QEvent, QMimeData, Qt, QTimer
@@ -15,6 +16,7 @@ from PyQt6.QtGui import QDragEnterEvent, QDropEvent, QKeyEvent, QWindow
 from PyQt6.QtWidgets import QApplication, QDialog
 
 from braildesk import Session, requests
+from braildesk.desk.draft import Draft, Unread
 from braildesk.desk.drafts import Drafts
 from braildesk.desk.layout import PageSize
 
@@ -476,6 +478,32 @@ def test_what_is_dropped_while_the_window_waits_stays_where_it_comes_from(
     desk.act("keep")
     assert (window.print.text, taken[2:]) == ("The MoonIt set.", [False, False])
     assert desk.contents.version == 6
+
+
+def test_a_text_that_was_held_waits_before_it_is_held_no_more(
+    desk: Desk, monkeypatch: pytest.MonkeyPatch
+) -> None:
+    done: list[tuple[str, str]] = []
+
+    def keep(draft: Draft | None) -> None:
+        done.append(("waits", draft.text if draft is not None else ""))
+
+    def keep_unread(held: Unread | None) -> None:
+        done.append(("held", held.text_of_all if held is not None else ""))
+
+    monkeypatch.setattr(desk.unsent, "keep", keep)
+    monkeypatch.setattr(desk.unsent, "keep_unread", keep_unread)
+    # a disk that takes long
+    is_free = Event()
+    desk.aside.post(is_free.wait, lambda future: None)
+    desk.window.print.textCursor().insertText("It rose. ")
+    desk.held.changed.emit()
+    desk.window.print.textCursor().insertText("It set. ")
+    is_free.set()
+    desk.wait_for_draft()
+    held_no_more = done.index(("held", ""))
+    assert ("waits", "It rose. The Moon") in done[:held_no_more]
+    assert done[-1] == ("waits", "It rose. It set. The Moon")
 
 
 class Pressed(QWindow):

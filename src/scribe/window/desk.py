@@ -1037,7 +1037,19 @@ class Desk:
             before, self._unheld = self._unheld, ""
             self.unsay(before)
 
-        self.aside.latest("held", lambda: self.unsent.keep_unread(held), look)
+        # as long as something is being done others see to what waits
+        typed = self.draft() if held is None and not self._is_acting else None
+
+        def keep() -> None:
+            if typed is not None:
+                try:
+                    self.unsent.keep(typed)
+                except NotKept:
+                    # which is said elsewhere; what was held stays where it is found
+                    return
+            self.unsent.keep_unread(held)
+
+        self.aside.latest("held", keep, look)
 
     def offered(
         self, title: str, asked: str, answers: Sequence[str], *by_enter: int
