@@ -294,6 +294,26 @@ def test_that_a_text_was_given_up_is_not_said_once_it_is_typed_further(
     desk.act("give_up")
 
 
+def test_that_a_text_was_given_up_is_not_said_once_it_came_back_by_redo(
+    desk: Desk, first: None
+) -> None:
+    desk.put_by(EDIT)
+    desk.act("bring_back")
+    desk.act("take_back")
+    assert desk.window.message.text == GIVEN_UP
+    # another text that is typed leaves it given up
+    _type(desk, "So")
+    assert desk.window.message.text == GIVEN_UP
+    desk.act("take_back")
+    desk.act("bring_back")
+    desk.act("take_back")
+    desk.say_too("It is five o'clock.")
+    desk.window.print.redo()
+    assert desk.window.print.text == EDIT.text
+    assert desk.window.message.text == "It is five o'clock."
+    desk.act("give_up")
+
+
 def test_of_a_text_of_a_struck_paragraph_it_is_said_that_it_would_be_a_new_one(
     desk: Desk, first: None
 ) -> None:

@@ -131,6 +131,8 @@ class Desk:
     _put_in = ""
     _put_in_from: str | None = None
     _taken_back: Draft | None = None
+    # what is said of that, as long as it is given up
+    _of_taken_back = ""
     # the print from which what is typed was typed, where that was another one
     _typed_from: str | None = None
     # what is said to be in the way of keeping what is typed
@@ -1174,6 +1176,7 @@ class Desk:
             draft, taken = self.draft(), self._taken_back
             if taken is not None and draft is not None:
                 self._taken_back = None
+                self.unsay(self._of_taken_back)
                 take_up = partial(self.unsent.take_up, draft, text)
                 # what can't be kept is said where it is kept as what waits
                 with suppress(NotKept):
@@ -1223,7 +1226,9 @@ class Desk:
         if before is None or self.draft() is not None or before.text != self._put_in:
             return
         self._taken_back = before
-        self.say(f"Given up. The book is as it was. {self.put_by(before)}")
+        said = f"Given up. The book is as it was. {self.put_by(before)}"
+        self._of_taken_back = visible(said)
+        self.say(said)
 
     def settle(self) -> bool:
         """Keeps what is typed; whether nothing is typed any more that the book doesn't have."""
