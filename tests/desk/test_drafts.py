@@ -339,6 +339,27 @@ def test_a_text_that_is_given_up_twice_is_kept_once_as_the_newest(
     assert [each.text for each in drafts.given_up()] == ["One.", "Two."]
 
 
+def test_texts_that_read_the_same_and_are_for_other_places_are_kept_each(
+    moon: Path, store: Path
+) -> None:
+    others = (
+        replace(NOTE, aim=Aim.AFTER),
+        replace(NOTE, paragraph=2),
+        replace(NOTE, words=Span(4, 9)),
+        replace(NOTE, words=None),
+        replace(NOTE, words=None, cells=Span(3, 4)),
+        replace(NOTE, before="At Tides"),
+    )
+    unsent = Unsent(Drafts(moon))
+    for each in (*others, NOTE, replace(NOTE, version=10), replace(NOTE, table="de")):
+        unsent.put_by(each)
+    newest = replace(NOTE, table="de")
+    found = (newest, *reversed(others))
+    assert unsent.texts() == Drafts(moon).given_up() == found
+    unsent.take_up(replace(NOTE, text="whence?"), NOTE)
+    assert unsent.texts() == Drafts(moon).given_up() == found[1:]
+
+
 def test_long_texts_that_were_given_up_make_room_for_the_newest(
     moon: Path, store: Path
 ) -> None:
@@ -352,7 +373,7 @@ def test_long_texts_that_were_given_up_make_room_for_the_newest(
     ]
     assert [each.text[0] for each in unsent.texts()] == ["c", "b", "a"]
     assert [each.text[0] for each in Unsent(Drafts(moon)).texts()] == ["c", "b"]
-    unsent.take_up(texts[0], texts[0].text)
+    unsent.take_up(texts[0], texts[0])
     assert [each.text[0] for each in unsent.texts()] == ["c", "b"]
 
 
@@ -380,7 +401,7 @@ def test_of_texts_that_read_the_same_the_one_that_was_given_up_last_is_brought_b
     moon: Path, store: Path, monkeypatch: pytest.MonkeyPatch
 ) -> None:
     unsent = Unsent(Drafts(moon))
-    unsent.put_by(replace(NOTE, paragraph=1))
+    unsent.put_by(replace(NOTE, before="The tides"))
 
     def full(folder: OwnFolder, name: str, data: bytes) -> None:
         raise OSError(errno.ENOSPC, os.strerror(errno.ENOSPC))

@@ -419,6 +419,46 @@ def test_a_text_that_is_left_for_later_waits_through_other_work(
     assert again.desk.drafts.waiting() is None
 
 
+def test_a_text_that_is_left_for_later_waits_where_another_one_reads_the_same(
+    moon: Path, sit: Sit
+) -> None:
+    sat = sit(moon)
+    sat.press("/", *"far", "enter", "m", *"why?")
+    sat.state = sat.desk.save_draft(sat.state)
+    sat.desk.close()
+    again = sit(moon)
+    again.press("l", "down", "down", "m", *"why?", "escape")
+    texts = "A note for a mark in paragraph {} was set aside: “why?”."
+    again.press("U")
+    assert asked(again).startswith(f"1 of 2. {texts.format(3)}")
+    again.press("U")
+    assert asked(again).startswith(f"2 of 2. {texts.format(1)}")
+    again.press("n", "q")
+    again.desk.close()
+    third = sit(moon)
+    assert asked(third).startswith("A note for a mark in paragraph 1 was typed")
+    third.press("y", "enter")
+    assert third.state.kept == "kept: mark 2"
+    third.press("U")
+    assert asked(third).startswith(f"1 of 1. {texts.format(3)}")
+    assert third.desk.drafts.waiting() is None
+
+
+def test_a_text_whose_paragraph_is_gone_is_given_up_as_it_waits(
+    moon: Path, sit: Sit
+) -> None:
+    text = Draft(Aim.EDIT, 9, "en", "It rises.", "It rose.")
+    Drafts(moon).save(text)
+    sat = sit(moon)
+    sat.press("n")
+    assert sat.state.message == "Given up. The book is as it was. U brings it back."
+    assert sat.desk.drafts.given_up() == (text,)
+    sat.press("U", "y", "enter", "escape")
+    assert sat.state.kept == "kept: paragraph 4"
+    sat.press("U")
+    assert sat.state.message == "No text is set aside in this book."
+
+
 @pytest.mark.parametrize("answer", ["y", "n", "l"])
 def test_a_text_that_is_left_for_later_is_asked_about_after_a_later_one_that_was_broken_off(
     moon: Path, sit: Sit, answer: str

@@ -260,7 +260,7 @@ def test_a_text_that_is_typed_anew_is_one_of_the_print_as_it_is(
         draft = desk.draft()
         assert draft is not None and draft.before == "That mon is far away."
         desk.act("give_up")
-        desk.unsent.take_up(draft, draft.text)
+        desk.unsent.take_up(draft, draft)
         desk.keep_draft(None)
 
 

@@ -51,6 +51,22 @@ class Draft(Value):
         return self.text.replace("\n", " ")
 
     @property
+    def known_by(self) -> tuple[object, ...]:
+        """By what a person tells it from others: how it reads, what for, and where.
+
+        A note is for its words, or for its cells where these aren't known.
+        """
+        its = self.words
+        words = self.before[its.start : its.stop] if its else None
+        is_note = self.aim is Aim.NOTE
+        where = (its or self.cells, words) if is_note else None
+        return self.text, self.aim, self.paragraph, where
+
+    def is_same_as(self, other: "Draft") -> bool:
+        """Whether a person takes it for the same text as another one, also where the print was changed."""
+        return self.known_by == other.known_by
+
+    @property
     def first_line(self) -> str:
         """The first of its lines."""
         return self.text.partition("\n")[0]

@@ -176,7 +176,7 @@ class Drafts:
 
         Those of the ten for which there is no room aren't kept any more, and are the result.
         """
-        others = [each for each in self.given_up() if each.text != draft.text]
+        others = [each for each in self.given_up() if not each.is_same_as(draft)]
         texts = (draft, *others)[:MOST_GIVEN_UP]
         values = [each.values() for each in texts]
         while len(values) > 1 and len(json.dumps(values)) > MOST_BYTES // 2:
@@ -184,10 +184,10 @@ class Drafts:
         self._write(Begun.GIVEN_UP, {"texts": values})
         return texts[len(values) :]
 
-    def take_out(self, text: str) -> None:
+    def take_out(self, draft: Draft) -> None:
         """Takes a text out of those given up: it is typed further, and waits until it is sent."""
         texts = self.given_up()
-        others = [each.values() for each in texts if each.text != text]
+        others = [each.values() for each in texts if not each.is_same_as(draft)]
         if len(others) < len(texts):
             self._write(Begun.GIVEN_UP, {"texts": others})
 
@@ -495,7 +495,7 @@ class Drafts:
         with suppress(NotKept):
             theirs = other.given_up()
             for each in reversed(self.given_up() if theirs else ()):
-                if each.text not in (its.text for its in theirs):
+                if not any(each.is_same_as(its) for its in theirs):
                     other.put_by(each)
         with suppress(NotKept):
             ours, waiting = self.waiting(), other.waiting()

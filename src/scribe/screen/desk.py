@@ -244,10 +244,10 @@ class Desk:
         if looked is not None:
             # what was said is among what is looked at
             return looked
-        draft = state.question.draft if state.question else None
+        saved = state.question.saved if state.question else None
         found = self._taken(keys.step(state, key))
-        if draft is not None and found.typed is not None:
-            found = self._taken_up(found, draft)
+        if saved is not None and found.typed is not None:
+            found = self._taken_up(found, saved)
         listed = listed_places(state)
         if key in _LEAVE and listed is not None and listed_places(found) is None:
             self._end_change(listed.wanted)
@@ -479,7 +479,7 @@ class Desk:
                 said = f"{state.message} {said}" if state.message else said
                 return self.save_draft(state.saying(said))
             saved = rest
-        if not self._unsent.waits(saved.text):
+        if not self._unsent.waits(saved):
             # it couldn't be kept, and is asked about until it is answered
             self._unsent.put_by(saved)
         moved = where_typed(self._unsent.typed_at)
@@ -936,12 +936,12 @@ class Desk:
         said = f"The rest of {action.note.name} is left out. What is in the book stays there."
         return state.saying(said)
 
-    def _taken_up(self, state: State, text: Field) -> State:
+    def _taken_up(self, state: State, saved: Draft) -> State:
         """The state in which a text is typed further, which waits from now on."""
         draft = draft_of(state)
         try:
             if draft is not None:
-                self._unsent.take_up(draft, text.text)
+                self._unsent.take_up(draft, saved)
         except NotKept as fault:
             return state.saying(not_kept(fault))
         return state

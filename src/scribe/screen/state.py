@@ -78,6 +78,8 @@ class Question:
     #: What the last of the lines ended in, until it is typed on.
     end: End = End.NOTHING
     draft: Field | None = None
+    #: The text that waits or was given up, as it was kept.
+    saved: Draft | None = None
     #: A text that is too long for one paragraph, and may go on in a new one, in its two parts.
     parts: tuple[str, str] | None = None
     #: What is done if the answer is yes, or no, where the question is about a text in a file, about

@@ -67,8 +67,8 @@ def with_text(
             return _brought_back(session, unsent, state, action.place)
         case PutBy():
             return _put_by(unsent, state, action)
-    offered = state.question.draft if state.question else None
-    said = _LATER if offered and unsent.waits(offered.text) else _NOT_LATER
+    offered = state.question.saved if state.question else None
+    said = _LATER if offered and unsent.waits(offered) else _NOT_LATER
     unsent.put_off()
     return replace(state, question=None, anchor=None).saying(said)
 
@@ -79,8 +79,9 @@ def _given_up(unsent: Unsent, state: State) -> State:
     if asked is not None and asked.draft is not None:
         state = replace(state, typed=asked.draft, question=None)
     draft = draft_of(state)
-    if draft and asked is not None and asked.draft is not None:
-        draft = _as_it_waits(unsent, draft)
+    if asked is not None and asked.saved is not None:
+        # at another place it would be another text
+        draft = asked.saved
     fault = unsent.put_by(draft) if draft else ""
     if asked is not None and asked.lines:
         its, field = state.reading, state.typed
@@ -94,14 +95,6 @@ def _given_up(unsent: Unsent, state: State) -> State:
         said = f"{said} {fault or 'U brings it back.'}"
     given_up = replace(state, typed=None, preview=None, question=None, anchor=None)
     return given_up.saying(said)
-
-
-def _as_it_waits(unsent: Unsent, draft: Draft) -> Draft:
-    """What is given up of what waits: a note is for the words for which it was typed still."""
-    waits = unsent.waiting
-    if waits is None or waits.aim is not Aim.NOTE or waits.text != draft.text:
-        return draft
-    return waits
 
 
 def _brought_back(session: Session, unsent: Unsent, state: State, place: int) -> State:
@@ -193,7 +186,8 @@ def asked_about(
     table = saved.table if saved.table in state.tables else None
     state = replace(state, table=table or state.table)
     asked = f"{sentence} Shall it be typed further?"
-    question = Question(asked, draft=field, more="l leaves it for later.")
+    more = "l leaves it for later."
+    question = Question(asked, draft=field, saved=saved, more=more)
     return replace(state, question=question)
 
 

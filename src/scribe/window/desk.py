@@ -1177,7 +1177,7 @@ class Desk:
             if taken is not None and draft is not None:
                 self._taken_back = None
                 self.unsay(self._of_taken_back)
-                take_up = partial(self.unsent.take_up, draft, text)
+                take_up = partial(self.unsent.take_up, draft, taken)
                 # what can't be kept is said where it is kept as what waits
                 with suppress(NotKept):
                     self.aside.result(take_up, False)

@@ -200,7 +200,7 @@ class Typed:
             # that it was given up is so no more
             desk.say("")
             try:
-                desk.aside.result(lambda: desk.unsent.take_up(draft, draft.text), False)
+                desk.aside.result(lambda: desk.unsent.take_up(draft, draft), False)
             except NotKept as fault:
                 # it is typed further, as anything is that can't be kept meanwhile
                 desk.say(not_kept(fault))

@@ -201,7 +201,7 @@ class Unsent:
         # what was given up and couldn't be kept, the newest first
         self._here: list[Draft] = []
         # what was given up here since a text was last left for later, the newest first
-        self._newest: tuple[str, ...] = ()
+        self._newest: tuple[Draft, ...] = ()
         #: What was said of that, until it isn't so any more.
         self.unkept_said = ""
         # what was given up before and had no room any more, the newest first
@@ -241,8 +241,9 @@ class Unsent:
             self._drafts.save(whole)
             self.waiting, text = whole, unread.rest.text
         if text:
-            self._older = self._drafts.put_by(replace(unread.rest, text=text))
-            self._newest = (text,)
+            draft = replace(unread.rest, text=text)
+            self._older = self._drafts.put_by(draft)
+            self._newest = (draft,)
             said = typed_at_offer if unread.is_at_offer else came_last
             self.came_last = said(text)
         self.keep_unread(None)
@@ -340,16 +341,17 @@ class Unsent:
             self._drafts.keep_words(*words)
             self.words = words
 
-    def waits(self, text: str) -> bool:
+    def waits(self, draft: Draft) -> bool:
         """Whether a text is the one that waits, or lines at its end."""
-        return self.waiting is not None and self.waiting.text.endswith(text)
+        its = self.waiting
+        is_end = its is not None and its.text.endswith(f"\n{draft.text}")
+        return is_end or its is not None and its.is_same_as(draft)
 
     def put_by(self, draft: Draft) -> str:
         """Keeps a text as the newest of those given up, and says what is in the way of that."""
-        self._forget(draft.text)
-        self._here = [each for each in self._here if each.text != draft.text]
-        others = (each for each in self._newest if each != draft.text)
-        self._newest = (draft.text, *others)
+        self._forget(draft)
+        self._here = _without(draft, self._here)
+        self._newest = (draft, *_without(draft, self._newest))
         try:
             older = self._drafts.put_by(draft)
         except NotKept as fault:
@@ -374,20 +376,23 @@ class Unsent:
 
     def take_on(self, draft: Draft) -> None:
         """A text that was left for later isn't any more: it is typed further, or nobody wants it."""
-        self._forget(draft.text)
+        self._forget(draft)
 
-    def take_up(self, draft: Draft, text: str) -> None:
-        """Has a text be typed further, which was given up or left for later; may raise `NotKept`."""
-        self._forget(text)
+    def take_up(self, draft: Draft, before: Draft) -> None:
+        """Has a text be typed further, which was given up or left for later; may raise `NotKept`.
+
+        It may be for another place by now than it was before.
+        """
+        self._forget(before)
         # it isn't given up any more, whether or not it can be kept while it is typed
-        self._here = [each for each in self._here if each.text != text]
-        self._older = tuple(each for each in self._older if each.text != text)
+        self._here = _without(before, self._here)
+        self._older = tuple(_without(before, self._older))
         self.keep(draft)
-        self._drafts.take_out(text)
+        self._drafts.take_out(before)
 
-    def _forget(self, text: str) -> None:
+    def _forget(self, draft: Draft) -> None:
         """A text that was left for later isn't any more."""
-        self._later = tuple(each for each in self._later if each.text != text)
+        self._later = tuple(_without(draft, self._later))
 
     def texts(self) -> tuple[Draft, ...]:
         """The texts that are left for later, and those given up: what was done last with one first."""
@@ -398,9 +403,15 @@ class Unsent:
             if not first:
                 raise
             kept = ()
-        found: dict[str, Draft] = {}
+        found: dict[object, Draft] = {}
         for each in (*first, *kept, *self._older):
-            # of those that read the same it is the newest
-            found.setdefault(each.text, each)
-        newest = [found.pop(text) for text in self._newest if text in found]
+            # of those that are the same it is the newest
+            found.setdefault(each.known_by, each)
+        known = [each.known_by for each in self._newest]
+        newest = [found.pop(each) for each in known if each in found]
         return (*newest, *found.values())
+
+
+def _without(draft: Draft, texts: Iterable[Draft]) -> list[Draft]:
+    """Texts without those that are the same as another one."""
+    return [each for each in texts if not each.is_same_as(draft)]
