@@ -15,7 +15,7 @@ import pytest
 from hypothesis import HealthCheck, given, settings, strategies as st
 
 from braildesk.desk import own_folder
-from braildesk.desk.draft import Aim, Draft, draft_in
+from braildesk.desk.draft import Aim, Draft, Unread, draft_in
 from braildesk.desk.drafts import Begun, Drafts, NotKept, NotSaved
 from braildesk.desk.import_note import note_in
 from braildesk.desk.own_folder import MOST_BYTES, OwnFolder
@@ -453,6 +453,78 @@ def test_that_what_is_typed_is_not_kept_is_said_where_another_text_waits_in_its_
     assert Drafts(moon).waiting() == first
     unsent.keep(NOTE)
     assert (Drafts(moon).waiting(), Drafts(moon).later()) == (NOTE, (first,))
+
+
+def test_a_text_that_was_given_up_and_can_not_be_kept_waits_on_before_one_left_for_later(
+    moon: Path, store: Path
+) -> None:
+    text = Draft(Aim.AFTER, 1, "en", "", "It rose.")
+    unsent, its = Unsent(Drafts(moon)), Drafts(moon)
+    unsent.keep(text)
+    unsent.put_off()
+    unsent.keep(NOTE)
+    its.place.with_suffix(".given-up").symlink_to(moon)
+    assert unsent.put_by(NOTE).endswith("It is here only until scribe ends.")
+    unsent.keep(None)
+    assert (its.waiting(), its.later()) == (NOTE, (text,))
+    its.place.with_suffix(".given-up").unlink()
+    unsent.keep(None)
+    assert (its.waiting(), its.later(), its.given_up()) == (text, (), (NOTE,))
+
+
+@pytest.mark.parametrize("kind", [Begun.WAITING, Begun.LATER])
+def test_what_comes_after_what_can_not_be_read_is_read(
+    moon: Path, store: Path, kind: Begun
+) -> None:
+    drafts = Drafts(moon)
+    waits, later, last = (
+        Draft(Aim.AFTER, 1, "en", "", text) for text in ("Waits.", "Later.", "Last.")
+    )
+    drafts.save(waits)
+    drafts.keep_later([later])
+    drafts.keep_unread(Unread("", last))
+    drafts.place.with_suffix(f".{kind.value}").write_bytes(b"none")
+    unsent = Unsent(Drafts(moon))
+    assert [each.args[0].suffix for each in unsent.read()] == [f".{kind.value}"]
+    assert unsent.came_last.endswith("“Last.”.")
+    unsent.keep_unread(Unread("", NOTE))
+    unsent.put_off()
+    unsent.keep(None)
+    unsent.keep(NOTE)
+    left = later if kind is Begun.WAITING else waits
+    its = Drafts(moon)
+    assert (its.waiting(), its.later(), its.given_up()) == (NOTE, (left,), (last,))
+
+
+def test_nothing_that_is_not_typed_comes_in_the_place_of_what_waits_and_can_not_be_read(
+    moon: Path, store: Path
+) -> None:
+    drafts, unsent = Drafts(moon), Unsent(Drafts(moon))
+    drafts.keep_later([NOTE])
+    drafts.place.symlink_to(moon)
+    (fault,) = unsent.read()
+    assert not_kept(fault) == f"{drafts.place} can't be read: it is a link."
+    unsent.keep(None)
+    assert drafts.place.is_symlink() and drafts.later() == (NOTE,)
+    unsent.keep(replace(NOTE, text="It rose."))
+    unsent.keep(None)
+    assert (drafts.waiting(), drafts.later()) == (NOTE, ())
+
+
+def test_what_came_last_and_can_not_be_kept_stays_where_it_came(
+    moon: Path, store: Path
+) -> None:
+    drafts, first = Drafts(moon), Draft(Aim.AFTER, 1, "en", "", "It rose.")
+    drafts.save(first)
+    drafts.keep_unread(Unread("It set.", NOTE))
+    drafts.place.with_suffix(".given-up").symlink_to(moon)
+    for _ in range(2):
+        unsent = Unsent(Drafts(moon))
+        assert len(unsent.read()) == 1
+        unsent.keep_unread(None)
+        assert unsent.unkept == (NOTE.text,)
+        assert drafts.unread() == Unread("", NOTE)
+        assert drafts.waiting() == replace(first, text="It rose.\nIt set.")
 
 
 def test_a_text_that_is_too_long_is_not_kept_and_the_one_before_it_stays(

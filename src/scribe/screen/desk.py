@@ -414,10 +414,7 @@ class Desk:
             self.drafts.take_in()
         except NotKept as fault:
             notices.append(not_kept(fault))
-        try:
-            self._unsent.read()
-        except NotKept as fault:
-            notices.append(not_kept(fault))
+        notices += map(not_kept, self._unsent.read())
         if self._unsent.came_last:
             notices.append(f"{self._unsent.came_last} U brings it back.")
         return tuple(notices)

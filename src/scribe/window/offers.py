@@ -77,11 +77,11 @@ class Offers:
         desk = self.desk
         said = [led(desk.path)] if led(desk.path) else []
         # at once, before anything is kept of what is pressed meanwhile
-        for read in (desk.drafts.take_in, desk.unsent.read):
-            try:
-                desk.aside.result(read)
-            except NotKept as fault:
-                said.append(not_kept(fault))
+        try:
+            desk.aside.result(desk.drafts.take_in)
+        except NotKept as fault:
+            said.append(not_kept(fault))
+        said += map(not_kept, desk.aside.result(desk.unsent.read))
         if desk.unsent.came_last:
             said.append(f"{desk.unsent.came_last} Ctrl+B brings it back.")
         words = desk.aside.result(desk.drafts.words)

@@ -198,6 +198,8 @@ class Unsent:
         self._later: tuple[Draft, ...] = ()
         # those of them that don't wait by now
         self._put_off: tuple[Draft, ...] = ()
+        # whether a text waits that can't be read, in the place of which none is put that isn't typed
+        self._is_hidden = False
         # what was given up and couldn't be kept, the newest first
         self._here: list[Draft] = []
         # what was given up here since a text was last left for later, the newest first
@@ -207,18 +209,33 @@ class Unsent:
         # what was given up before and had no room any more, the newest first
         self._older: tuple[Draft, ...] = ()
 
-    def read(self) -> None:
-        """Reads what waits from before, or raises `NotKept`."""
+    def read(self) -> tuple[NotKept, ...]:
+        """Reads what waits from before, and gives what of it can't be read."""
         self.cut = self._drafts.cut()
         self.answers = self._drafts.answers()
         self.words = self._drafts.words() or ("", "")
-        self.waiting = self._drafts.waiting()
+        faults: list[NotKept] = []
+        for each in (self._read_waiting, self._read_later, self._read_unread):
+            try:
+                each()
+            except NotKept as fault:
+                # of a folder that can't be read it is said once
+                is_known = any(isinstance(its, NotRead) for its in faults)
+                if not (is_known and isinstance(fault, NotRead)):
+                    faults.append(fault)
+        return tuple(faults)
+
+    def _read_waiting(self) -> None:
+        try:
+            self.waiting = self._drafts.waiting()
+        except NotRead:
+            self._is_hidden = True
+            raise
         self.typed_at = self._drafts.typed_at()
+
+    def _read_later(self) -> None:
         self._put_off = self._drafts.later()
         self._later = tuple(each for each in self._put_off if each != self.waiting)
-        self._unread = self._drafts.unread()
-        if self._unread is not None:
-            self._read_unread(self._unread)
 
     def look_elsewhere(self, print_of: Callable[[int], str | None]) -> None:
         """Has a text wait that was typed at a print of this book, where no book is any more."""
@@ -233,8 +250,11 @@ class Unsent:
                 self.waiting = self._drafts.waiting()
                 self.typed_at = self._drafts.typed_at()
 
-    def _read_unread(self, unread: Unread) -> None:
+    def _read_unread(self) -> None:
         """Has what came last go on after the text that waits, or else be among those given up."""
+        unread = self._drafts.unread()
+        if unread is None:
+            return
         text, waiting = unread.text_of_all, self.waiting
         if waiting is not None and waiting.aim is not Aim.NOTE and unread.lines:
             whole = replace(waiting, text=f"{waiting.text}\n{unread.lines}")
@@ -242,10 +262,17 @@ class Unsent:
             self.waiting, text = whole, unread.rest.text
         if text:
             draft = replace(unread.rest, text=text)
-            self._older = self._drafts.put_by(draft)
             self._newest = (draft,)
+            try:
+                self._older = self._drafts.put_by(draft)
+            except NotKept:
+                # it stays where it came, too, without the lines that go on
+                self._here.insert(0, draft)
+                self._drafts.keep_unread(replace(unread, lines="", rest=draft))
+                raise
             said = typed_at_offer if unread.is_at_offer else came_last
             self.came_last = said(text)
+        self._unread = unread
         self.keep_unread(None)
 
     def keep_unread(self, unread: Unread | None) -> None:
@@ -256,26 +283,30 @@ class Unsent:
 
     def keep(self, typed: Draft | None) -> None:
         """Has what is typed wait, or what was left for later, or nothing; may raise `NotKept`."""
-        wanted = typed or next(iter(self._later), None)
         self._keep_here()
+        wanted = typed or self._next()
         if wanted != self.waiting:
             self._have_wait(wanted)
         # after that: one that waits by now is among them until it does
         self._keep_later(each for each in self._later if each != wanted)
 
+    def _next(self) -> Draft | None:
+        """The text that waits once nothing is typed: of those that were left for later the newest."""
+        if self._is_hidden or self.waiting in self._here:
+            # what couldn't be kept elsewhere waits on
+            return self.waiting
+        return next(iter(self._later), None)
+
     def _have_wait(self, wanted: Draft | None) -> None:
         """Has a text wait in place of the one that did, or none; may raise `NotKept`."""
         before = self.waiting
         if wanted is None:
-            if before in self._here:
-                # what couldn't be kept elsewhere waits on
-                return
             self._drafts.clear()
         else:
             if before in self._later and before not in self._put_off:
                 self._keep_beside(before)
             self._drafts.save(wanted)
-        self.waiting, self.typed_at = wanted, None
+        self.waiting, self.typed_at, self._is_hidden = wanted, None, False
 
     def _keep_beside(self, draft: Draft) -> None:
         """Keeps a text that is left for later where it is found if the machine stops before it waits again.
