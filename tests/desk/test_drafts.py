@@ -339,6 +339,24 @@ def test_a_text_that_is_given_up_twice_is_kept_once_as_the_newest(
     assert [each.text for each in drafts.given_up()] == ["One.", "Two."]
 
 
+def test_texts_that_were_kept_without_when_they_were_left_come_after_all_others(
+    moon: Path, store: Path, monkeypatch: pytest.MonkeyPatch
+) -> None:
+    one, two, three, four = (
+        Draft(Aim.AFTER, 1, "en", "", text) for text in ("One.", "Two.", "3.", "4.")
+    )
+    drafts = Drafts(moon)
+    drafts.put_by(one)
+    drafts.keep_later([two])
+    unsent = Unsent(drafts)
+    unsent.read()
+    unsent.put_by(three)
+    # also where the clock is set back
+    monkeypatch.setattr("scribe.words.drafts.time_ns", lambda: 0)
+    unsent.put_by(four)
+    assert unsent.texts() == (four, three, two, one)
+
+
 def test_texts_that_read_the_same_and_are_for_other_places_are_kept_each(
     moon: Path, store: Path
 ) -> None:

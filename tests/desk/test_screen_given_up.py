@@ -444,6 +444,25 @@ def test_a_text_that_is_left_for_later_waits_where_another_one_reads_the_same(
     assert third.desk.drafts.waiting() is None
 
 
+def test_texts_come_back_by_when_they_were_given_up_or_left_also_at_the_next_opening(
+    moon: Path, sit: Sit
+) -> None:
+    Drafts(moon).save(Draft(Aim.AFTER, 2, "en", "", "First."))
+    sat = sit(moon)
+    sat.press("l", "o", *"Second.")
+    sat.state = sat.desk.save_draft(sat.state)
+    sat.desk.close()
+    sat = sit(moon)
+    sat.press("l", "o", *"Third.", "escape", "q")
+    sat.desk.close()
+    sat = sit(moon)
+    assert "“Second.”" in asked(sat)
+    sat.press("y", "enter", "escape", "U")
+    assert "1 of 2. " in asked(sat) and "“Third.”" in asked(sat)
+    sat.press("U")
+    assert "2 of 2. " in asked(sat) and "“First.”" in asked(sat)
+
+
 def test_a_text_whose_paragraph_is_gone_is_given_up_as_it_waits(
     moon: Path, sit: Sit
 ) -> None:

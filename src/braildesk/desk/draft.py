@@ -1,7 +1,7 @@
 """A text that was typed for a book and isn't in it yet."""
 
 import re
-from dataclasses import dataclass, replace
+from dataclasses import dataclass, field, replace
 from enum import Enum, auto
 
 from braildesk.desk.record import NotSuch, Record
@@ -33,7 +33,8 @@ class Draft(Value):
 
     Lines that were pasted, and may become paragraphs, are parted by LF. The cells are those of the
     mark whose note was typed, and the words those of it in that print, if they are known. The version
-    is that of the book at that time, if it is known.
+    is that of the book at that time, if it is known. When it was given up or left for later, in
+    milliseconds, is for the order of such texts.
     """
 
     aim: Aim
@@ -44,6 +45,7 @@ class Draft(Value):
     cells: Span | None = None
     version: int | None = None
     words: Span | None = None
+    left: int | None = field(default=None, compare=False)
 
     @property
     def joined(self) -> str:
@@ -117,6 +119,7 @@ class Draft(Value):
         has_words = words is not None and words.start < words.stop
         return {
             **({"words": words} if has_words else {}),
+            **({"left": self.left} if self.left is not None else {}),
             "purpose": self.aim.name,
             "paragraph": self.paragraph,
             "table": self.table,
@@ -173,6 +176,7 @@ def draft_in(kept: Record) -> Draft:
         _span(kept, "cells"),
         kept.number_or_none("version"),
         _span(kept, "words"),
+        kept.number_or_none("left"),
     )
 
 

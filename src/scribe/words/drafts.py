@@ -4,6 +4,7 @@ from collections.abc import Callable, Iterable, Sequence
 from contextlib import suppress
 from dataclasses import replace
 from pathlib import Path
+from time import time_ns
 
 from braildesk.desk.draft import Aim, Draft, Unread
 from braildesk.desk.drafts import (
@@ -16,6 +17,7 @@ from braildesk.desk.drafts import (
     NotTaken,
 )
 from braildesk.protocol.sentences import of_failure
+from braildesk.text import limits
 
 from scribe.words.paragraph import counted, quoted
 
@@ -202,8 +204,8 @@ class Unsent:
         self._is_hidden = False
         # what was given up and couldn't be kept, the newest first
         self._here: list[Draft] = []
-        # what was given up here since a text was last left for later, the newest first
-        self._newest: tuple[Draft, ...] = ()
+        # when a text was last given up or left for later
+        self._left = 0
         #: What was said of that, until it isn't so any more.
         self.unkept_said = ""
         # what was given up before and had no room any more, the newest first
@@ -236,6 +238,7 @@ class Unsent:
     def _read_later(self) -> None:
         self._put_off = self._drafts.later()
         self._later = tuple(each for each in self._put_off if each != self.waiting)
+        self._left = max((each.left or 0 for each in self._put_off), default=0)
 
     def look_elsewhere(self, print_of: Callable[[int], str | None]) -> None:
         """Has a text wait that was typed at a print of this book, where no book is any more."""
@@ -261,8 +264,7 @@ class Unsent:
             self._drafts.save(whole)
             self.waiting, text = whole, unread.rest.text
         if text:
-            draft = replace(unread.rest, text=text)
-            self._newest = (draft,)
+            draft = self._left_now(replace(unread.rest, text=text))
             try:
                 self._older = self._drafts.put_by(draft)
             except NotKept:
@@ -380,9 +382,9 @@ class Unsent:
 
     def put_by(self, draft: Draft) -> str:
         """Keeps a text as the newest of those given up, and says what is in the way of that."""
+        draft = self._left_now(draft)
         self._forget(draft)
         self._here = _without(draft, self._here)
-        self._newest = (draft, *_without(draft, self._newest))
         try:
             older = self._drafts.put_by(draft)
         except NotKept as fault:
@@ -403,7 +405,13 @@ class Unsent:
         """Leaves the text that waits for later."""
         if self.waiting is not None:
             others = (each for each in self._later if each != self.waiting)
-            self._later, self._newest = (self.waiting, *others), ()
+            self.waiting = self._left_now(self.waiting)
+            self._later = (self.waiting, *others)
+
+    def _left_now(self, draft: Draft) -> Draft:
+        """A text as it is given up or left for later now, which is after all that are known here."""
+        self._left = min(max(self._left + 1, time_ns() // 1_000_000), limits.NUMBER)
+        return replace(draft, left=self._left)
 
     def take_on(self, draft: Draft) -> None:
         """A text that was left for later isn't any more: it is typed further, or nobody wants it."""
@@ -435,12 +443,11 @@ class Unsent:
                 raise
             kept = ()
         found: dict[object, Draft] = {}
-        for each in (*first, *kept, *self._older):
+        texts = (*first, *kept, *self._older)
+        for each in sorted(texts, key=lambda its: -(its.left or 0)):
             # of those that are the same it is the newest
             found.setdefault(each.known_by, each)
-        known = [each.known_by for each in self._newest]
-        newest = [found.pop(each) for each in known if each in found]
-        return (*newest, *found.values())
+        return tuple(found.values())
 
 
 def _without(draft: Draft, texts: Iterable[Draft]) -> list[Draft]:
