@@ -8,7 +8,7 @@ from pathlib import Path
 
 import pytest
 
-from braildesk import Session
+from braildesk import Session, requests
 from braildesk.desk.draft import Aim, Draft, Unread
 from braildesk.desk.drafts import Drafts
 from braildesk.desk.own_folder import OwnFolder
@@ -461,6 +461,28 @@ def test_texts_come_back_by_when_they_were_given_up_or_left_also_at_the_next_ope
     assert "1 of 2. " in asked(sat) and "“Third.”" in asked(sat)
     sat.press("U")
     assert "2 of 2. " in asked(sat) and "“First.”" in asked(sat)
+
+
+def test_a_text_left_for_later_is_asked_about_where_the_newer_one_is_in_the_book(
+    moon: Path, sit: Sit
+) -> None:
+    later = Draft(Aim.AFTER, 2, "en", "", "It rose.")
+    with Session(moon) as session:
+        before = session.last_version
+        session.ask(requests.Correct(2, 8, 1, "."))
+        now = session.print_of(2)
+    for number in (1, 2):
+        drafts = Drafts(moon)
+        drafts.save(Draft(Aim.EDIT, 2, "en", "The Tides", now, None, before))
+        drafts.keep_later([later])
+        sat = sit(moon)
+        assert f"What was typed last is in the book, in paragraph 2: “{now}”." in (
+            sat.state.message
+        )
+        assert asked(sat).startswith("A text of a new paragraph was typed and isn't")
+        sat.press(*"ln"[number - 1], "q")
+        assert drafts.waiting() == (later if number == 1 else None)
+        sat.desk.close()
 
 
 def test_a_text_whose_paragraph_is_gone_is_given_up_as_it_waits(

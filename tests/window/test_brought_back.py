@@ -427,6 +427,24 @@ def test_a_text_that_waits_is_offered_also_where_one_beside_the_book_is_none(
     desk.act("give_up")
 
 
+def test_a_text_left_for_later_is_offered_where_the_newer_one_is_in_the_book(
+    desk: Desk, given: Answers
+) -> None:
+    later, before = Draft(Aim.AFTER, 2, "en", "", "It rose."), desk.contents.version
+    desk.do(requests.Correct(2, 0, 3, "That"))
+    now = desk.asked(lambda: desk.book.session.print_of(2))
+    Drafts(desk.path).save(replace(EDIT, text=now, version=before))
+    Drafts(desk.path).keep_later([later])
+    given["choices"] = [2]
+    desk.acting(Actions(desk).offer)
+    assert given["said"][0].startswith(
+        f"What was typed last is in the book, in paragraph 2: “{now}”. A text of a new paragraph was"
+    )
+    assert desk.window.message.text.startswith("The text waits.")
+    desk.wait_for_draft()
+    assert Drafts(desk.path).waiting() == later
+
+
 def test_a_text_that_waits_is_not_lost_where_the_session_ends_before_it_is_offered(
     desk: Desk,
 ) -> None:

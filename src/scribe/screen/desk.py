@@ -231,7 +231,7 @@ class Desk:
         )
         state = with_cut(self._unsent, where_left(self.drafts, state))
         state = with_answers(self._unsent, state)
-        state = elsewhere(state, self._offered(state, self._unsent.waiting))
+        state = elsewhere(state, self._first_offered(state))
         state = reminded(self.drafts, self._session, state)
         state = asking(with_changes(self.drafts, self._session, state))
         back = taken_back_in_part(self.drafts, state.version)
@@ -463,6 +463,14 @@ class Desk:
         )
         places = [n for n, each in enumerate(book) if each.id == number]
         return state.at(places[0], state.place) if places else state.at(0)
+
+    def _first_offered(self, state: State) -> State:
+        """Asks about the first text that waits and isn't in the book: others were left for later."""
+        saved: Draft | None = None
+        while state.question is None and self._unsent.waiting not in (None, saved):
+            saved = self._unsent.waiting
+            state = self._offered(state, saved)
+        return state
 
     def _offered(self, state: State, saved: Draft | None) -> State:
         """Asks whether a text that waits is taken up, unless the book has it by now."""

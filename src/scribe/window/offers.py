@@ -55,7 +55,7 @@ class Offers:
         desk.unsent.put_off()
         waiting = desk.unsent.waiting
         if waiting is not None:
-            self._offer_text(waiting)
+            self._offer_first(waiting)
             desk.say_too(notices)
         contents = desk.contents
         found = desk.asked(
@@ -110,24 +110,37 @@ class Offers:
             desk.drafts.end_change(note)
             desk.say(STAY)
 
-    def _offer_text(self, waiting: Draft) -> None:
-        desk, offered = self.desk, waiting
-        contents = desk.contents
+    def _offer_first(self, waiting: Draft, said: str = "") -> None:
+        """Asks about the first text that waits and isn't in the book: others were left for later."""
+        desk, contents = self.desk, self.desk.contents
+        # until it is answered, whatever comes between
+        desk.unsent.put_off()
         where = desk.asked(lambda: desk.book.where_kept(contents, waiting))
+        rest: Draft | None = waiting
         if where:
             rest = desk.asked(lambda: desk.book.unkept(contents, waiting))
-            if rest is None:
-                desk.unsent.take_on(offered)
-                desk.keep_draft(None)
-                numbers = [each.id for each in contents.paragraphs]
-                desk.say(is_in_book(waiting, where, numbers))
-                return
-            waiting = rest
+        if rest is not None:
+            self._offer_text(waiting, rest, said)
+            return
+        desk.unsent.take_on(waiting)
+        desk.keep_draft(None)
+        desk.wait_for_draft()
+        numbers = [each.id for each in contents.paragraphs]
+        said = f"{said} {is_in_book(waiting, where, numbers)}".lstrip()
+        following = desk.unsent.waiting
+        if following is None or following == waiting:
+            desk.say(said)
+        else:
+            self._offer_first(following, said)
+
+    def _offer_text(self, offered: Draft, waiting: Draft, said: str) -> None:
+        """Asks about a text that waits, of which some may be in the book, after something is said."""
+        desk = self.desk
         asked = (
-            f"{what_for(waiting)} was typed and isn't in the book: {in_short(waiting)}."
+            f"{said} {what_for(waiting)} was typed and isn't in the book: {in_short(waiting)}."
             f"{where_typed(desk.unsent.typed_at)}{self._typed.changed_since(waiting)}"
             " Shall it be typed further?"
-        )
+        ).lstrip()
         answers = ("&Type it further", "&Give it up", "&Later")
         answer = desk.offered("Unsent text", asked, answers)
         if answer < 2:
