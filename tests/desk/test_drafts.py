@@ -1064,6 +1064,26 @@ def test_texts_that_are_left_for_later_at_a_lost_book_stand_beside_those_where_i
     assert other.later() == (second, first, theirs)
 
 
+def test_a_text_that_is_left_for_later_no_more_at_a_lost_book_is_not_where_it_was_saved(
+    moon: Path,
+) -> None:
+    own, other = Drafts(moon), Drafts(moon.with_name("other.braildesk"))
+    first, second, theirs = (
+        replace(NOTE, text=text) for text in ("One.", "Two.", "Theirs.")
+    )
+    own.keep_later([second, first])
+    own.copy_to(other.book)
+    other.keep_later([theirs, *other.later()])
+    own.put_by(first)
+    own.keep_later([second])
+    own.copy_to(other.book)
+    assert (other.later(), other.given_up()) == ((second, theirs), (first,))
+    own.save(second)
+    own.keep_later([])
+    own.copy_to(other.book)
+    assert (other.later(), other.waiting()) == ((theirs,), second)
+
+
 @pytest.mark.parametrize(
     "done, said",
     [

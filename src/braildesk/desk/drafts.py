@@ -133,6 +133,8 @@ class Drafts:
         self._file = identity_of(self.book)
         #: The text that waits and was copied for another book.
         self._copied: Draft | None = None
+        # those that are left for later and were copied so
+        self._copied_later: tuple[Draft, ...] = ()
 
     @property
     def place(self) -> Path:
@@ -477,18 +479,15 @@ class Drafts:
         for what in Begun:
             # what can't be read or kept there is kept for this book still
             with suppress(NotSuch, OSError, NotKept):
-                if what is Begun.GIVEN_UP and other.given_up():
-                    continue
-                if what is Begun.LATER and (theirs := other.later()):
-                    own = self.later()
-                    others = (each for each in theirs if each not in own)
-                    other.keep_later((*own, *others))
+                is_among_theirs = what is Begun.GIVEN_UP and other.given_up()
+                if is_among_theirs or what is Begun.LATER:
                     continue
                 data = self._folder.read(self._name(what))
                 if data is not None:
                     other._write(
                         what, Record.of(data).without("book", "file", "generation")
                     )
+        self._take_from(other)
 
     def _add_to(self, other: "Drafts", before: Draft | None) -> None:
         """Gives up, for another book, the texts of this one beside those that were typed there meanwhile."""
@@ -502,6 +501,24 @@ class Drafts:
             if ours and waiting and waiting not in (ours, before, self._copied):
                 other.put_by(waiting)
             self._copied = ours
+        with suppress(NotKept):
+            # before another text waits there
+            later, of_other = self.later(), other.later()
+            whole = (*later, *(each for each in of_other if each not in later))
+            if whole != of_other:
+                other.keep_later(whole)
+
+    def _take_from(self, other: "Drafts") -> None:
+        """Takes away, for another book, what was copied as left for later and isn't that any more.
+
+        It waits there by now, or is among those given up.
+        """
+        with suppress(NotKept):
+            later, theirs = self.later(), other.later()
+            gone = [each for each in self._copied_later if each not in later]
+            if any(each in gone for each in theirs):
+                other.keep_later([each for each in theirs if each not in gone])
+            self._copied_later = later
 
     def _is_of(self, name: str, identity: Identity, is_open: bool) -> bool:
         """Whether a file was kept for this book, at a path where it isn't looked for any more.
