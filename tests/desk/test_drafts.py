@@ -310,6 +310,62 @@ def test_of_two_drafts_that_a_moved_book_finds_none_is_lost(
     assert kept == {"One.", "Two."} and Drafts(again).waiting()
 
 
+def test_texts_of_a_book_that_is_moved_to_where_another_one_had_some_are_found(
+    moon: Path, store: Path
+) -> None:
+    other = Path(shutil.copyfile(moon, moon.with_name("other.braildesk")))
+    one, two, three, four = (
+        replace(NOTE, text=text, left=left)
+        for left, text in enumerate(("One.", "Two.", "Three.", "Four."), 1)
+    )
+    for its, texts in ((Drafts(moon), (one, three)), (Drafts(other), (two, four))):
+        for each in texts:
+            its.put_by(each)
+        its.keep_later([texts[0]])
+    away = moon.rename(moon.with_name("away.braildesk"))
+    other.rename(moon)
+    for _ in range(2):
+        its = Drafts(moon)
+        its.take_in()
+        assert its.given_up() == (four, three, two, one)
+        assert its.later() == (two, one)
+    # nor does the one that was there before lose any
+    Drafts(away).take_in()
+    assert Drafts(away).given_up() == (three, one)
+    assert Drafts(away).later() == (one,)
+    assert Drafts(other).given_up() == Drafts(other).later() == ()
+
+
+@pytest.mark.parametrize("at", range(1, 7))
+def test_no_text_of_a_moved_book_is_lost_where_the_machine_stops_meanwhile(
+    moon: Path, store: Path, monkeypatch: pytest.MonkeyPatch, at: int
+) -> None:
+    other = Path(shutil.copyfile(moon, moon.with_name("other.braildesk")))
+    one, two = replace(NOTE, text="One."), replace(NOTE, text="Two.")
+    for its, each in ((Drafts(moon), one), (Drafts(other), two)):
+        its.put_by(each)
+        its.keep_later([each])
+    other.rename(moon)
+    left = iter([False] * (at - 1) + [True] * 9)
+
+    def stops(deed: Callable[..., None]) -> Callable[..., None]:
+        def done(*given: object) -> None:
+            if next(left):
+                raise KeyboardInterrupt
+            deed(*given)
+
+        return done
+
+    with monkeypatch.context() as patched:
+        for name in ("write", "remove"):
+            patched.setattr(OwnFolder, name, stops(getattr(OwnFolder, name)))
+        with pytest.raises(KeyboardInterrupt):
+            Drafts(moon).take_in()
+    its = Drafts(moon)
+    its.take_in()
+    assert {*its.given_up()} == {*its.later()} == {one, two}
+
+
 def test_a_draft_stays_with_the_path_where_the_file_of_the_book_is_replaced(
     moon: Path, store: Path
 ) -> None:

@@ -389,6 +389,10 @@ class Drafts:
         """
         self._clear_left()
         self.adopt(is_open=True)
+        for what in (Begun.LATER, Begun.GIVEN_UP):
+            # what can't be taken over stays where it is
+            with suppress(NotSuch, OSError, NotKept):
+                self._adopt_texts(what)
         beside = self.book.name + "-unsent"
         try:
             with opened(self.book.parent) as folder:
@@ -444,6 +448,31 @@ class Drafts:
             if is_place and self._is_of(name, identity, is_open):
                 self._folder.rename(name, its)
                 return
+
+    def _adopt_texts(self, what: Begun) -> None:
+        """Takes over the texts of this book, where those of another one were kept for its path before."""
+        identity, its = identity_of(self.book), self._name(what)
+        names = self._folder.names()
+        if identity is None or its not in names:
+            return
+        for name in names:
+            is_such = name != its and name.partition(".")[2] == what.value
+            if is_such and self._is_of(name, identity, is_open=True):
+                self._add_texts(what, name, identity)
+                self._folder.remove(name)
+
+    def _add_texts(self, what: Begun, name: str, identity: Identity) -> None:
+        """Keeps the texts of a file of this book beside those that are kept for its path."""
+        data = self._folder.read(self._name(what)) or b""
+        kept, found = Record.of(data), Record.of(self._folder.read(name) or b"")
+        texts = (*_drafts_in(found), *_drafts_in(kept))
+        if not identity.is_in(kept):
+            # a book that was moved away from here finds them still, by a name that no path has
+            self._folder.write(f"{sha256(data).hexdigest()[:32]}.{what.value}", data)
+        whole: dict[object, Draft] = {}
+        for each in sorted(texts, key=lambda its: -(its.left or 0)):
+            whole.setdefault(each.known_by, each)
+        self._write(what, {"texts": [each.values() for each in whole.values()]})
 
     def adopt_if(self, is_of_book: Callable[[Draft], bool]) -> None:
         """Takes over a text that waits for a book which isn't at its path any more, if none waits here.
