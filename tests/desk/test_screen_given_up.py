@@ -12,6 +12,7 @@ from braildesk import Session, requests
 from braildesk.desk.draft import Aim, Draft, Unread
 from braildesk.desk.drafts import Drafts
 from braildesk.desk.own_folder import OwnFolder
+from braildesk.text.spans import Span
 from scribe.screen.drawing import draw
 from scribe.screen.state import Size
 from sitting import Sat, Sit
@@ -483,6 +484,22 @@ def test_a_text_left_for_later_is_asked_about_where_the_newer_one_is_in_the_book
         sat.press(*"ln"[number - 1], "q")
         assert drafts.waiting() == (later if number == 1 else None)
         sat.desk.close()
+
+
+@pytest.mark.parametrize("aim", [Aim.EDIT, Aim.NOTE, Aim.AFTER])
+def test_that_a_paragraph_is_struck_is_said_of_a_text_that_waits_for_it(
+    moon: Path, sit: Sit, aim: Aim
+) -> None:
+    cells = Span(0, 2) if aim is Aim.NOTE else None
+    Drafts(moon).save(Draft(aim, 2, "en", "The Tides", "The Tide", cells))
+    with Session(moon) as session:
+        session.ask(requests.Strike(2))
+    sat = sit(moon)
+    said = "Paragraph 2 is struck, so nothing goes in there until it is restored."
+    assert (said in asked(sat)) == (aim is not Aim.AFTER)
+    sat.press("y", "enter")
+    assert (said in sat.state.message, sat.state.typed is None) == (False, False)
+    assert sat.state.failure.startswith("Paragraph 2 is struck.") or aim is Aim.AFTER
 
 
 def test_a_text_whose_paragraph_is_gone_is_given_up_as_it_waits(

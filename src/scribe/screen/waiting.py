@@ -28,6 +28,7 @@ from scribe.words.drafts import (
     changed_since,
     typed_at_offer,
     what_for,
+    while_struck,
     without_paragraph,
 )
 from scribe.words.paragraph import counted, quoted
@@ -167,6 +168,8 @@ def asked_about(
         now = session.print_of(state.book[places[0]].id)
         changed = changed_since(saved, now)
         before = saved.before if changed and saved.aim is Aim.EDIT else None
+        if state.book[places[0]].struck and not saved.aim.is_new:
+            changed += while_struck(state.book[places[0]].id)
     amount = _amount(saved)
     sentence = (
         f"{what_for(saved)} {became}: {quoted(saved.joined)}.{amount}{moved}{changed}"

@@ -93,6 +93,13 @@ def beside_struck(number: int) -> str:
     return f" Paragraph {number} is struck, so it would be a new paragraph."
 
 
+def while_struck(number: int) -> str:
+    """That a paragraph for which a text was typed is struck by now, after a blank."""
+    return (
+        f" Paragraph {number} is struck, so nothing goes in there until it is restored."
+    )
+
+
 def as_paragraphs(numbers: Sequence[int], count: int) -> str:
     """That a text is in the book as so many of its newest paragraphs, of these numbers; or nothing."""
     newest = sorted(numbers)[-count:] if count else []
