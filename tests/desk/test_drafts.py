@@ -1104,6 +1104,18 @@ def test_what_is_typed_on_at_a_lost_book_replaces_nothing_that_others_type_where
     assert set(other.given_up()) == {first, theirs, NOTE, next_of_theirs}
 
 
+def test_texts_of_a_lost_book_are_kept_where_one_that_waits_is_the_first_that_is_given_up(
+    moon: Path,
+) -> None:
+    own, other = Drafts(moon), Drafts(moon.with_name("other.braildesk"))
+    theirs, last = replace(NOTE, text="Theirs."), replace(NOTE, text="Last.")
+    other.save(theirs)
+    own.put_by(NOTE)
+    own.save(last)
+    own.copy_to(other.book)
+    assert (other.waiting(), other.given_up()) == (last, (NOTE, theirs))
+
+
 def test_texts_that_are_left_for_later_at_a_lost_book_stand_beside_those_where_it_was_saved(
     moon: Path,
 ) -> None:

@@ -521,15 +521,15 @@ class Drafts:
     def _add_to(self, other: "Drafts", before: Draft | None) -> None:
         """Gives up, for another book, the texts of this one beside those that were typed there meanwhile."""
         with suppress(NotKept):
-            theirs = other.given_up()
-            for each in reversed(self.given_up() if theirs else ()):
-                if not any(each.is_same_as(its) for its in theirs):
-                    other.put_by(each)
-        with suppress(NotKept):
             ours, waiting = self.waiting(), other.waiting()
             if ours and waiting and waiting not in (ours, before, self._copied):
                 other.put_by(waiting)
             self._copied = ours
+        with suppress(NotKept):
+            theirs = other.given_up()
+            for each in reversed(self.given_up() if theirs else ()):
+                if not any(each.is_same_as(its) for its in theirs):
+                    other.put_by(each)
         with suppress(NotKept):
             # before another text waits there
             later, of_other = self.later(), other.later()
