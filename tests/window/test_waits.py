@@ -245,6 +245,8 @@ def test_that_the_words_of_a_note_were_changed_is_said_and_which_they_were(
     monkeypatch.setattr(dialogs, "one_of", lambda _, t, a, names, f: names[0])
     desk.act("bring_back")
     assert asked[0].startswith(f"{said} The note of a mark on “")
+    # the window keeps there that nothing waits any more
+    desk.wait_for_draft()
     Drafts(desk.path).save(draft)
     given["choices"] = [2]
     desk.acting(Actions(desk).offer)
