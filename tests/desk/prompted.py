@@ -169,3 +169,8 @@ class Prompted:
 def without_waiting(lines: list[str]) -> list[str]:
     """Lines but for that which is said where a machine has other work, and scribe waits."""
     return [line for line in lines if line != WAITING]
+
+
+def child_of(process: int) -> int:
+    """The only process that another one began and has still."""
+    return int(Path(f"/proc/{process}/task/{process}/children").read_text())

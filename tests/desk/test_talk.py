@@ -14,7 +14,7 @@ import braildesk
 from braildesk import pipe
 from scribe.cli.commands import AT_PROMPT
 from scribe.words.typed import InvalidInput, words_of
-from prompted import LOOKING_OFTEN, OF_SHELL, Prompted
+from prompted import LOOKING_OFTEN, OF_SHELL, Prompted, child_of
 from terminal import once_free
 from tool import at_end, at_terminal, end, environment, scribe
 
@@ -713,9 +713,30 @@ def test_what_was_pasted_and_not_read_as_a_talk_is_told_to_end_is_carried_out_by
     assert talk_about(moon).greeting[-4:] == [*lines, "strike"]
 
 
-def child_of(process: int) -> int:
-    """The only process that another one began and has still."""
-    return int(Path(f"/proc/{process}/task/{process}/children").read_text())
+def test_what_was_pasted_as_a_session_is_lost_for_good_is_carried_out_by_no_shell(
+    moon: Path,
+) -> None:
+    settings = environment(**OF_SHELL)
+    words = ["--norc", "--noprofile", "-i"]
+    shell = at_terminal("bash", *words, settings=settings, folder=moon.parent)
+    shell.expect_exact("$ ")
+    shell.sendline(f"'{sys.executable}' -m scribe talk moon.braildesk")
+    shell.expect_exact("> ")
+    program = child_of(child_of(shell.pid))
+    os.kill(program, signal.SIGSTOP)
+    lines = ["type end en It is far.", "echo far > shell", "print 1"]
+    shell.send("\r".join([*lines, "strike"]))
+    shell.expect_exact(lines[0])
+    time.sleep(0.2)
+    away = moon.rename(moon.with_name("away"))
+    os.kill(program, signal.SIGKILL)
+    shell.expect_exact("may not be in the book")
+    shell.expect_exact("$ ")
+    end(shell)
+    assert not moon.with_name("shell").exists()
+    away.rename(moon)
+    once_free(moon).close()
+    assert talk_about(moon).greeting[-4:] == [*lines, "strike"]
 
 
 def test_the_end_of_the_input_ends_the_talk(talk: Prompted, moon: Path) -> None:

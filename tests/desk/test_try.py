@@ -1,5 +1,7 @@
 """scribe try, by what a person sees at a terminal."""
 
+import os
+import signal
 import sys
 import time
 from collections.abc import Iterator
@@ -8,7 +10,7 @@ from pathlib import Path
 import pytest
 
 from scribe.prompt import trial, typed_lines
-from prompted import LOOKING_OFTEN, OF_SHELL, Prompted
+from prompted import LOOKING_OFTEN, OF_SHELL, Prompted, child_of
 from tool import (
     WAIT_SECONDS,
     Ran,
@@ -245,6 +247,26 @@ def test_a_trial_that_is_told_to_end_while_it_is_stopped_ends(
     shell.expect_exact(f"Stopped by {name}. No book was changed.")
     shell.expect_exact("$ ")
     end(shell)
+
+
+def test_what_was_pasted_and_not_read_as_a_trial_is_told_to_end_is_carried_out_by_no_shell(
+    own: Path,
+) -> None:
+    settings = environment(**OF_SHELL)
+    words = ["--norc", "--noprofile", "-i"]
+    shell = at_terminal("bash", *words, settings=settings, folder=own.parent)
+    shell.expect_exact("$ ")
+    shell.sendline(f"'{sys.executable}' -m scribe try '{own}'")
+    shell.expect_exact("> ")
+    trial = child_of(shell.pid)
+    # of which most is still to be read
+    shell.send("echo far > shell\r" * 150)
+    shell.expect_exact("echo far > shell")
+    os.kill(trial, signal.SIGTERM)
+    shell.expect_exact("Stopped by SIGTERM.")
+    shell.expect_exact("$ ")
+    end(shell)
+    assert not own.with_name("shell").exists()
 
 
 def test_the_line_before_comes_back(trying: Prompted) -> None:

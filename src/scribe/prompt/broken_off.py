@@ -45,7 +45,12 @@ class BrokenOff(AbstractContextManager["BrokenOff"]):
         error: BaseException | None,
         trace: TracebackType | None,
     ) -> None:
-        if self._lines is None or kind is None:
+        if kind is not None:
+            self.keep()
+
+    def keep(self) -> None:
+        """Keeps what was typed and isn't answered, as the talk ends by what nobody asked for."""
+        if self._lines is None:
             return
         its = self._conversation
         # the lines that came after that are for no shell, which would carry them out

@@ -151,6 +151,9 @@ class TypedLines(AbstractContextManager["TypedLines"]):
         error: BaseException | None,
         trace: TracebackType | None,
     ) -> None:
+        if kind is not None:
+            # what was pasted for here is for no shell
+            self.rest()
         # a terminal that was closed needs no care
         with suppress(termios.error):
             termios.tcsetattr(0, termios.TCSADRAIN, self._before)

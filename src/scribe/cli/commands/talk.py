@@ -91,6 +91,7 @@ def run(arguments: Namespace, console: Console) -> Status:
             again, said = opened_again(arguments.file, lost, conversation.shown)
             console.say(*said)
             if again is None:
+                broken_off.keep()
                 return Status.FAILED
             session = opened.enter_context(again)
             if not isinstance(lines, TypedLines):
