@@ -64,7 +64,7 @@ CASES = (
     Case("give_up", "This paragraph was empty, and wasn't added."),
     Case("new_before", focus=("text", "Print")),
     Case("give_up", "This paragraph was empty, and wasn't added."),
-    Case("bring_back", "No text was given up in this book."),
+    Case("bring_back", "No text is set aside in this book."),
     Case("to_cells", focus=("text", "Braille")),
     Case("to_message", focus=("text", "Message")),
     Case("to_paragraphs", focus=("table", "Paragraphs")),

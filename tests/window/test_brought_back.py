@@ -279,7 +279,7 @@ def test_a_text_that_came_back_by_redo_and_was_kept_is_given_up_no_more(
     desk.act("give_up")
     assert (prints_of(desk)[1], _kept(desk)) == ("It rose.", ([], ""))
     desk.act("bring_back")
-    assert desk.window.message.text == "No text was given up in this book."
+    assert desk.window.message.text == "No text is set aside in this book."
 
 
 def test_that_a_text_was_given_up_is_not_said_once_it_is_typed_further(

@@ -190,7 +190,7 @@ class Typed:
             return
         texts = desk.aside.result(desk.unsent.texts, False)
         if not texts:
-            raise Stop("No text was given up in this book.")
+            raise Stop("No text is set aside in this book.")
         names = [f"{n}. {what_for(t)}: {in_short(t)}" for n, t in enumerate(texts, 1)]
         asked = "Which text shall be typed further?"
         name = desk.one_of("Bring back a text", asked, names)
