@@ -41,6 +41,7 @@ from PyQt6.QtWidgets import (
 from braildesk.text.characters import is_shown, visible
 
 from scribe.window.fields import ENTER, Field, is_letter, lines_of, stays_chosen
+from scribe.window.held import take_what_came
 from scribe.window.worker import Worker
 
 Result = TypeVar("Result")
@@ -534,6 +535,7 @@ def _line(
             changed(_in_a_line(line))
 
     dialog.textValueChanged.connect(typed)
+    take_what_came(dialog)
     with _back_to(over, dialog):
         return _in_a_line(dialog.textValue()) if dialog.exec() else None
 
@@ -628,6 +630,7 @@ def fields(
     column.addWidget(_ok_or_cancel(dialog))
     lines[0].selectAll()
     _fit(dialog, _WIDTH)
+    take_what_came(dialog)
     with _back_to(over, dialog):
         is_given = dialog.exec()
     if not is_given:
@@ -699,6 +702,7 @@ def folder(over: QWidget, title: str, asked: str, first: str) -> str | None:
     for part in (label, line, buttons):
         column.addWidget(part)
     _fit(dialog, _FOLDER_WIDTH)
+    take_what_came(dialog)
     with _back_to(over, dialog):
         return line.text() if dialog.exec() else None
 

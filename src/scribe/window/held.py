@@ -3,6 +3,7 @@
 from collections import deque
 from collections.abc import Iterator
 from contextlib import contextmanager
+from typing import TypeGuard
 
 from PyQt6.QtCore import QCoreApplication, QEvent, QObject, Qt, QTimer, pyqtSignal
 from PyQt6.QtGui import QGuiApplication, QInputMethodEvent, QKeyEvent, QWindow
@@ -26,6 +27,17 @@ _OF_KEYS = frozenset((_KINDS.Shortcut, _KINDS.InputMethod))
 _OF_TEXT = frozenset((_KINDS.KeyPress, _KINDS.InputMethod))
 # what is dragged, which is there only for now
 _OF_DRAGS = frozenset((_KINDS.DragEnter, _KINDS.DragMove, _KINDS.Drop))
+# the property of dialogs of which a line takes what came before it was there
+_TAKES = "takesWhatCame"
+
+
+def take_what_came(dialog: QWidget) -> None:
+    """Has a line of a dialog take what comes after the key that opens it, before it has the keyboard."""
+    dialog.setProperty(_TAKES, True)
+
+
+def _is_of_line(dialog: QWidget | None) -> TypeGuard[QWidget]:
+    return dialog is not None and bool(dialog.property(_TAKES))
 
 
 class Held(QObject):
@@ -43,6 +55,8 @@ class Held(QObject):
         super().__init__()
         # each with the dialog over the window as it came
         self._events: deque[tuple[QWidget | None, QObject, QEvent]] = deque()
+        # whether all of it came after the key that is obeyed, or in a line that this opened
+        self._is_ahead = True
         self._waits = 0
         # the dialog over the window as the wait began
         self._over: QWidget | None = None
@@ -103,6 +117,8 @@ class Held(QObject):
 
         What they drag isn't taken, and stays where it comes from.
         """
+        if isinstance(to, QWidget) and event is not None and _is_of_line(to):
+            self._take_until_shown(event)
         is_held = self._waits or self._events or self._is_over
         if not is_held or to is None or event is None:
             return False
@@ -126,6 +142,12 @@ class Held(QObject):
             self.changed.emit()
         return True
 
+    def _take_until_shown(self, event: QEvent) -> None:
+        """Takes what came until a dialog is shown: Qt drops what comes beneath it after that."""
+        if event.type() == _KINDS.Show and not event.spontaneous():
+            with self.holding():
+                QCoreApplication.processEvents()
+
     def _is_by_hands(self, to: QObject, kind: QEvent.Type) -> bool:
         """Whether hands did this. A window is closed by what they did before, too."""
         if kind == _KINDS.Close and (self._is_over or not self._waits):
@@ -137,17 +159,25 @@ class Held(QObject):
         if self._waits or self._is_over or not self._events:
             return
         over, to, event = self._events[0]
-        if QApplication.activeModalWidget() is not over:
+        dialog = QApplication.activeModalWidget()
+        is_line, is_there = _is_of_line(dialog), dialog is over
+        if not is_there and not (is_line and self._is_ahead):
             self.unanswered.emit()
             self._events.clear()
+            self._is_ahead = True
             self.changed.emit()
             return
         self._events.popleft()
         # each in a turn of its own, so that a dialog which it opens isn't waited for by the next one
         self._soon.start()
+        self._is_ahead = self._is_ahead and is_line or not self._events
         self._obeyed = event
         is_text = event.type() == _KINDS.InputMethod
-        its = QGuiApplication.focusObject() if is_text else to
+        its: QObject | None = QGuiApplication.focusObject() if is_text else to
+        if dialog is not None and not is_there:
+            is_key = event.type() in (_KINDS.KeyPress, _KINDS.KeyRelease)
+            of_line = dialog.focusWidget() if is_text else None
+            its = dialog.windowHandle() if is_key else of_line
         if its is not None and not isdeleted(its):
             QCoreApplication.sendEvent(its, event)
         if not self._events:

@@ -1,0 +1,66 @@
+"""What is typed for a line of a dialog before that has the keyboard: it comes into the line, in its order."""
+
+import signal
+from collections.abc import Sequence
+from pathlib import Path
+
+import pytest
+
+from braildesk.desk.drafts import Drafts
+
+from conftest import Open
+
+_FOUND = "Paragraph 3, character 17."
+
+
+@pytest.mark.parametrize(
+    "part, key, keys, said",
+    [
+        ("F5", "Ctrl+f", ["sea", "Return"], _FOUND),
+        ("F2", "Ctrl+f", ["sae", "BackSpace", "BackSpace", "ea", "Return"], _FOUND),
+        ("F5", "Ctrl+g", ["3", "Return"], "Paragraph 3, character 1."),
+        # of which the place is asked of the program first
+        ("F5", "Ctrl+m", ["so?", "Return"], "Kept: mark 2."),
+        ("F2", "Ctrl+m", ["spelled so?", "Return"], "Kept: mark 2."),
+        # each line in its order
+        (
+            *("F5", "Ctrl+h", ["mon", "Return", "moon", "Return"]),
+            "Kept: correction 1 of paragraph 2.",
+        ),
+    ],
+)
+def test_what_hands_type_for_a_line_before_it_is_there_comes_into_it(
+    moon: Path, at: Open, part: str, key: str, keys: Sequence[str], said: str
+) -> None:
+    window = at(moon)
+    window.press(part)
+    # as a machine that has much to do hands keys on
+    window.program.send_signal(signal.SIGSTOP)
+    window.press(key)
+    for each in keys:
+        if each[0].isupper():
+            window.press(each)
+        else:
+            window.type(each)
+    window.program.send_signal(signal.SIGCONT)
+    window.says(said)
+    window.no_dialog()
+    assert not Drafts(moon).given_up()
+
+
+def test_what_hands_type_for_lines_before_they_are_there_comes_into_each(
+    moon: Path, at: Open
+) -> None:
+    window = at(moon)
+    window.program.send_signal(signal.SIGSTOP)
+    window.press("Ctrl+Shift+H")
+    window.type("mon")
+    window.press("Tab")
+    window.type("moon")
+    window.press("Return")
+    window.program.send_signal(signal.SIGCONT)
+    asked = "“mon” would be changed in 1 place of 1 paragraph"
+    window.until("the question", lambda: asked in window.described())
+    window.press("Escape")
+    window.no_dialog()
+    window.says("Nothing was changed.")
