@@ -646,6 +646,23 @@ def test_a_place_that_shares_letters_with_a_changed_one_goes_on(tides: Path) -> 
     assert Drafts(tides).changes() == ()
 
 
+def test_of_a_change_that_was_cut_short_before_its_first_place_none_is_changed_yet(
+    tides: Path, monkeypatch: pytest.MonkeyPatch
+) -> None:
+    def stopped(*_: object) -> Change:
+        raise KeyboardInterrupt
+
+    monkeypatch.setattr("braildesk.desk.change_all.change_place", stopped)
+    with pytest.raises(Interrupted):
+        run_words(
+            ["change-all", str(tides), "tides", "seas"],
+            Console(BytesIO(), StringIO(), StringIO()),
+        )
+    monkeypatch.setattr("braildesk.desk.change_all.change_place", change_place)
+    said = "Changing “tides” to “seas” was cut short: none of 1 place is changed yet.\n"
+    assert changed(tides, "tides", "seas", "--dry-run").said.startswith(said)
+
+
 def test_what_was_noted_of_another_book_at_the_path_is_not_said_of_this_one(
     tides: Path,
 ) -> None:

@@ -264,6 +264,12 @@ def test_a_file_that_is_not_there_is_said(tmp_path: Path) -> None:
     )
 
 
+def test_of_a_book_it_is_said_that_it_is_no_table(moon: Path) -> None:
+    ran = scribe("check-table", moon.name, folder=moon.parent)
+    said = "moon.braildesk is a book of braildesk, and no table.\n"
+    assert ran == Ran(2, "", said)
+
+
 @pytest.mark.parametrize(
     ("words", "name"),
     [

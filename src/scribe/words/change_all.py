@@ -167,9 +167,10 @@ def cut_short(note: ChangeNote, now: Sequence[Became], already: str = "") -> str
         return f"{what} was cut short, and it isn't seen how far it came."
     is_are = "is" if changed < 2 else "are"
     some = f"{changed:,}" if changed else "none"
+    when = " yet" if already and not changed else already
     return (
         f"{what} was cut short: {least}{some} of {counted(len(places), 'place')}"
-        f" {is_are} changed{already}."
+        f" {is_are} changed{when}."
     )
 
 

@@ -2,12 +2,13 @@
 
 from argparse import ArgumentParser, Namespace
 
+from braildesk.opening import MAGIC
 from braildesk.tables import Reading, TableText, Warning, text_at, warnings
 from braildesk.text.wrapping import wrap
 
 from scribe.cli.parser import Subparsers, add_width, command_parser, file_path
 from scribe.words.console import Console
-from scribe.words.status import Status
+from scribe.words.status import Status, Stop
 from scribe.words.tables import counted, fault_lines, named, warning_lines
 
 MORE = """\
@@ -45,7 +46,10 @@ def add_parser(subparsers: Subparsers) -> ArgumentParser:
 
 def run(arguments: Namespace, console: Console) -> Status:
     """Shows the faults, or the warnings if there is none."""
-    reading = TableText(arguments.table, text_at(arguments.table)).reading
+    text = text_at(arguments.table)
+    if text.startswith(MAGIC):
+        raise Stop(f"{named(arguments.table)} is a book of braildesk, and no table.")
+    reading = TableText(arguments.table, text).reading
     rare = warnings(reading.table, is_for_embosser=not arguments.display)
     found = [] if reading.faults else rare
     for line in [*fault_lines(reading), *warning_lines(found, reading)]:
