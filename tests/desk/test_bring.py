@@ -4,6 +4,7 @@ import os
 import re
 import resource
 import signal
+import tempfile
 from collections.abc import Mapping
 from concurrent.futures import ThreadPoolExecutor
 from pathlib import Path
@@ -17,6 +18,7 @@ from braildesk.tables.convert.draft import comment_lines
 from braildesk.tables.convert.oracle import Liblouis
 from braildesk.tables.convert.source import find_table, read_source
 from braildesk.tables.convert.subject import read_subject
+from scribe.words.status import of_system
 from tool import scribe
 
 EACH = 4
@@ -399,3 +401,17 @@ def test_the_installed_tables_are_listed_by_language(tmp_path: Path) -> None:
     assert spanish.startswith("es ")
     assert ran.said.startswith("real lines: of lines of running text that nobody made")
     assert [line[:8] for line in lines] == sorted(line[:8] for line in lines)
+
+
+def test_that_no_folder_takes_files_for_a_while_is_said_in_words_for_people(
+    tmp_path: Path, monkeypatch: pytest.MonkeyPatch
+) -> None:
+    monkeypatch.setattr(tempfile, "tempdir", None)
+    nowhere = [str(tmp_path / "nowhere")]
+    monkeypatch.setattr(tempfile, "_candidate_tempdir_list", lambda: nowhere)
+    with pytest.raises(FileNotFoundError) as failed:
+        convert(find_table("es-g1.ctb"), Options())
+    assert of_system(failed.value, "") == (
+        "The system failed: no folder for temporary files can be written to, such as /tmp. Set TMPDIR"
+        " to one that can be."
+    )

@@ -259,8 +259,15 @@ _OF_FULL_DISK = MappingProxyType(
 )
 
 
+# what Python says where no folder takes files for a while, and what is said in place of that
+_NO_FOLDER = "No usable temporary directory"
+_NO_FOLDER_SAID = "no folder for temporary files can be written to, such as /tmp. Set TMPDIR to one that can be"
+
+
 def of_failure(failure: OSError) -> str:
     """Why the system failed, in its own words unless a disk is full; to stand after a colon."""
+    if str(failure.strerror).startswith(_NO_FOLDER):
+        return _NO_FOLDER_SAID
     said = _OF_FULL_DISK.get(failure.errno or 0)
     return said or failure.strerror or str(failure)
 
