@@ -3,16 +3,15 @@
 The work below is done once whole. Then it is done again and again, each time in a process that
 kills itself at another moment: before one of the calls of the system by which anything is written
 or sent. So no second passes, and the same moment is the same place of the code. What the screen
-said before the end is compared with the book and with the texts that are kept. The first moments
-are those at which a file gets or loses its name; `KILLS` in the environment says how many there are,
-and 300 are all.
+said before the end is compared with the book and with the texts that are kept. Among the moments are
+all at which a file gets or loses its name, and the others are taken from all of the work; `KILLS` in
+the environment says how many there are at most.
 """
 
 import json
 import os
 import shutil
 import signal
-import sys
 from collections.abc import Callable, Iterator
 from dataclasses import dataclass
 from pathlib import Path
@@ -27,7 +26,7 @@ from scribe.screen.desk import Desk
 from scribe.screen.state import Size, State
 from terminal import once_free
 
-KILLS = int(os.environ.get("KILLS", "25"))
+KILLS = int(os.environ.get("KILLS", "200"))
 NAMING = ("rename", "replace", "link", "unlink")
 WRITING = ("write", "fsync", "mkdir", *NAMING)
 #: Keys, a text that is typed (in quotation marks), one that is pasted (in brackets), or a second
@@ -142,25 +141,25 @@ def killed_at(path: Path, moment: int | None) -> tuple[list[Shown], list[str]]:
 def in_child(path: Path, moment: int | None, writing: int) -> None:
     """Does the work in a process that ends before a call, if any."""
     calls: list[str] = []
+    send = os.write
 
-    def counted(frame: Any, event: str, called: Any) -> None:
-        if event != "c_call" or getattr(called, "__module__", "") != "posix":
-            return
-        if called.__name__ in WRITING:
+    def counted(call: Callable[..., Any]) -> Callable[..., Any]:
+        def made(*given: Any, **named: Any) -> Any:
             if len(calls) == moment:
                 os.kill(os.getpid(), signal.SIGKILL)
-            calls.append(called.__name__)
+            calls.append(call.__name__)
+            return call(*given, **named)
+
+        return made
 
     def report(now: Shown | list[str]) -> None:
-        sys.setprofile(None)
         values = vars(now) if isinstance(now, Shown) else now
-        os.write(writing, json.dumps(values).encode() + b"\n")
-        sys.setprofile(counted)
+        send(writing, json.dumps(values).encode() + b"\n")
 
-    sys.setprofile(counted)
+    for name in WRITING:
+        setattr(os, name, counted(getattr(os, name)))
     worked(path, report)
     report(calls)
-    sys.setprofile(None)
 
 
 @pytest.fixture
@@ -183,7 +182,7 @@ def test_nothing_that_was_kept_or_given_up_is_lost_where_scribe_is_killed(
 ) -> None:
     whole, calls = killed_at(fresh(0), None)
     assert (whole[-1].version, whole[-1].given_up) == (21, GIVEN_UP)
-    moments = sorted(range(len(calls)), key=lambda n: (calls[n] not in NAMING, n))
+    moments = sorted(range(len(calls)), key=lambda n: (calls[n] not in NAMING, n % 3))
     assert sum(call in NAMING for call in calls) > 20
     for moment in moments[:KILLS]:
         path = fresh(moment + 1)
