@@ -6,7 +6,7 @@ import signal
 import sys
 import time
 from collections.abc import Callable, Iterator
-from contextlib import contextmanager
+from contextlib import contextmanager, suppress
 from fcntl import ioctl
 from pathlib import Path
 from termios import FIONREAD
@@ -427,5 +427,17 @@ def once_free(path: Path) -> Session:
         except CannotOpen as refused:
             # the other one may have ended before it was looked for
             if refused.why not in (Why.IN_USE, Why.UNKNOWN) or time.monotonic() > end:
+                for each in users_of(path):
+                    refused.add_note(each)
                 raise
             time.sleep(0.01)
+
+
+def users_of(path: Path) -> Iterator[str]:
+    """The processes that have a file open, by their numbers and their words."""
+    for each in Path("/proc").glob("[0-9]*/fd/*"):
+        with suppress(OSError):
+            if each.samefile(path):
+                process = each.parents[1]
+                words = process.joinpath("cmdline").read_bytes().split(b"\0")
+                yield f"Process {process.name} has it open: {b' '.join(words)!r}"
