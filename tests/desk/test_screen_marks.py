@@ -257,7 +257,7 @@ def test_n_says_the_note_of_a_mark_first_where_it_has_no_row(
     assert (note in read) == (lines < 3)
 
 
-def test_marks_that_are_touched_besides_the_one_in_hand_are_named(
+def test_marks_that_are_touched_are_all_named_where_one_is_elsewhere_than_the_cursor(
     moon: Path, sit: Sit
 ) -> None:
     with Session(moon) as session:
@@ -266,7 +266,7 @@ def test_marks_that_are_touched_besides_the_one_in_hand_are_named(
     sat.press("n", "enter", *["delete"] * 7, *"sun was", "home", "enter")
     assert [sat.lines[-5], sat.lines[-2]] == [
         "Mark 1, open, touched, on “sun wa”: spelled so?",
-        "This touched mark 2.",
+        "This touched the marks 1 and 2.",
     ]
 
 

@@ -2,7 +2,8 @@
 
 A volume begins at a heading if that can be. Only a chapter that has too many pages by itself is cut
 before one of its paragraphs. Of all ways to do so that cut as few chapters, one is taken that has the
-fewest volumes, and of these one whose volumes are of a size as even as can be without more pages.
+fewest volumes, and of these one whose volumes are of a size as even as can be without more pages. A
+volume that ends within a chapter is full.
 """
 
 from bisect import bisect_right

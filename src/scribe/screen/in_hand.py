@@ -38,8 +38,8 @@ def with_mark_in_hand(state: State, before: State) -> State:
     """The state after a command, with the mark in hand that was worked on before it.
 
     That is the open mark on which an edit began, so that r resolves it wherever in its paragraph
-    the edit ended; or else one that the command put, or one that it touched elsewhere. Other marks
-    that were touched are said.
+    the edit ended; or else one that the command put, or one that it touched elsewhere. Where any
+    that were touched are elsewhere, all are said.
     """
     if state.reading is None or before.reading is None:
         return state
@@ -57,8 +57,9 @@ def with_mark_in_hand(state: State, before: State) -> State:
         state = holding(state, put[-1].id)
     elif fresh and not set(fresh) & set(state.marks_here):
         state = holding(state, fresh[0].id)
-    others = [mark for mark in fresh if mark not in state.marks_here]
-    return state.saying(touched(others)) if others else state
+    # of those of which the screen shows one, it may show only a line
+    is_elsewhere = any(mark not in state.marks_here for mark in fresh)
+    return state.saying(touched(fresh)) if is_elsewhere else state
 
 
 def left_here(state: State) -> State:
@@ -103,7 +104,7 @@ def marked_words(session: Session, paragraph: int, cells: Span) -> Span | None:
 
 
 def touched(marks: list[Mark]) -> str:
-    """What is said of marks that were touched elsewhere; nothing if there are none."""
+    """What is said of marks that were touched; nothing if there are none."""
     numbers = [str(mark.id) for mark in marks]
     if not numbers:
         return ""
