@@ -142,6 +142,29 @@ def test_of_a_new_paragraph_that_is_empty_again_no_character_of_another_is_said(
     desk.act("give_up")
 
 
+def _new_again(desk: Desk) -> Callable[[], None]:
+    """Gives up what is typed, and begins another paragraph."""
+
+    def act() -> None:
+        desk.act("give_up")
+        desk.act("new_after")
+
+    return act
+
+
+def test_of_what_is_not_typed_any_more_no_fault_is_said(
+    desk: Desk, application: QApplication
+) -> None:
+    desk.act("new_after")
+    said, field = desk.window.here.text, desk.window.print
+    for take_away in (lambda: field.setPlainText(""), _new_again(desk)):
+        field.insertPlainText("x#")
+        assert wait(application, 9, lambda: "no cells" in desk.window.here.text)
+        take_away()
+        assert desk.window.here.text == said
+    desk.act("give_up")
+
+
 @pytest.mark.parametrize("typed", ["", "  "])
 def test_a_new_paragraph_of_blanks_alone_is_not_put_into_the_book(
     desk: Desk, typed: str

@@ -796,7 +796,8 @@ class Desk:
         if not self.is_typed() and self.new is None:
             window.here.show_text("")
             return
-        fault = self._preview.fault if self._preview else ""
+        # nothing is at fault where nothing stands, as after what stood there was given up
+        fault = self._preview.fault if self._preview and text else ""
         count = f"{counted(len(text), 'character')}, not in the book yet."
         where = f"Character {place + 1:,}" if place < len(text) else "The end"
         said = f"{where} of {count}"
