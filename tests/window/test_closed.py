@@ -454,8 +454,12 @@ def test_letters_that_come_after_a_refusal_are_typed_on(desk: Desk) -> None:
     assert (window.print.text, window.focusWidget()) == ("#sThe Moon", window.print)
     # not where the message is read because somebody went there, nor where letters are keys
     desk.act("to_message")
+    said = window.message.text
     press("t")
+    press("u")
     assert window.print.text == "#sThe Moon"
+    nowhere = "Nothing is typed here: a text goes into the print. F2 goes there."
+    assert window.message.text == f"{said} {nowhere}".lstrip()
     window.print.setPlainText("The Moon")
 
 

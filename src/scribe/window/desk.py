@@ -80,6 +80,7 @@ _GONE = "The book is closed: Its file isn't at “{path}” any more. {then}"
 _THEN = "Open the book again, in the menu Book, opens it once it is there again."
 _SAVED = "All of the book is in “{saved}”, which scribe window opens."
 _NOT_PASTED = "Nothing was pasted: a text goes into the print. F2 goes there."
+_NOT_TYPED = "Nothing is typed here: a text goes into the print. F2 goes there."
 _NOT_SHOWN = "has a character that a window can't show. scribe edit changes it."
 _ONLY_HERE = (
     "What is typed can't be kept elsewhere: it is lost if the window is closed."
@@ -462,6 +463,8 @@ class Desk:
         if self._is_refused and self._came_from is field and not field.isReadOnly():
             self.go_back()
             field.textCursor().insertText(typed)
+        elif typed.strip() and not self.window.message.text.endswith(_NOT_TYPED):
+            self.say_too(_NOT_TYPED)
 
     def _refuse_to_type(self) -> None:
         """Says why nothing can be typed in the print, to hands that type there."""
