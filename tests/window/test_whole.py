@@ -18,6 +18,7 @@ from braildesk.text.spans import Span
 
 from scribe.window import dialogs
 from scribe.window.actions import Actions
+from scribe.window.book import NotAll
 from scribe.window.desk import Desk
 
 from conftest import Answers
@@ -297,7 +298,7 @@ def test_the_book_is_parted_into_volumes(desk: Desk, given: Answers) -> None:
     assert given["said"][0].endswith(
         "Paragraph 3 would begin a volume.\nShall the volumes be set so?"
     )
-    assert desk.window.message.text == "Kept: 1 beginning of volumes set."
+    assert desk.window.message.text == "Kept: volumes set at 1 paragraph."
     assert [each.begins_volume for each in desk.contents.paragraphs][2]
     given["line"] = 1
     desk.act("volumes")
@@ -311,7 +312,17 @@ def test_the_book_is_parted_into_volumes(desk: Desk, given: Answers) -> None:
     desk.act("part")
     assert desk.window.message.text.startswith("The volumes begin there already: 2 vol")
     desk.act("take_back")
-    assert desk.window.message.text == "Taken back: 1 beginning of volumes set."
+    assert desk.window.message.text == "Taken back: volumes set at 1 paragraph."
+
+
+def test_as_many_volumes_are_said_to_be_set_as_were_before_that_was_stopped(
+    desk: Desk,
+) -> None:
+    commands = [requests.Volume(number, True) for number in (2, 3)]
+    what, is_first = "volumes set at {} of them".format, (True, False)
+    with pytest.raises(NotAll):
+        desk.asked(lambda: desk.book.all_done(commands, what, is_first.__getitem__))
+    assert desk.book.deeds[-1].what == "volumes set at 1 of them"
 
 
 def test_volumes_of_a_count_of_pages_with_very_many_digits(

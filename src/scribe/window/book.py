@@ -397,9 +397,12 @@ class OpenBook:
         return self._after(*last)
 
     def all_done(
-        self, commands: Sequence[Command[Any]], what: str, go_on: Callable[[int], bool]
+        self,
+        commands: Sequence[Command[Any]],
+        what: Callable[[int], str],
+        go_on: Callable[[int], bool],
     ) -> Done:
-        """Carries out commands that are taken back together; raises `NotAll`."""
+        """Carries out commands that are taken back together, by their count in words; raises `NotAll`."""
         before = self._deeds
         try:
             for count, command in enumerate(commands):
@@ -410,8 +413,8 @@ class OpenBook:
                 except Refused as refused:
                     raise NotAll(count, refused) from refused
         finally:
-            self._gather(before, what)
-        return Done(self.contents(), f"kept: {what}", None)
+            self._gather(before, what(len(self._deeds) - len(before)))
+        return Done(self.contents(), f"kept: {what(len(commands))}", None)
 
     def changed_at(self, its: Proposal, by: str | None) -> Change:
         """Changes one place of words, and notes how that is taken back."""

@@ -93,7 +93,9 @@ class Volumes:
     def _set(self, changed: Sequence[tuple[Paragraph, bool]]) -> None:
         desk = self.desk
         commands = [requests.Volume(each.id, begins) for each, begins in changed]
-        what = f"{counted(len(commands), 'beginning')} of volumes set"
+
+        def what(count: int) -> str:
+            return f"volumes set at {counted(count, 'paragraph')}"
 
         def act(say: Say, is_stopped: IsStopped) -> Done:
             def go_on(done: int) -> bool:
