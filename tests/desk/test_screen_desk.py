@@ -5,16 +5,17 @@ import os
 import shutil
 import signal
 import tempfile
-from collections.abc import Iterator
+from collections.abc import Callable, Iterator
 from pathlib import Path
 from typing import Any
 
 import pytest
 
 import braildesk
-from braildesk import Kind, Session, requests
+from braildesk import CannotOpen, Kind, Session, Why, requests
 from braildesk.desk.draft import Aim, Draft
 from braildesk.desk.drafts import Drafts
+from braildesk.desk.manuscripts import taken
 from braildesk.text.cells import braille_patterns
 
 from scribe.screen.background import ActionResult, done_in_background
@@ -505,6 +506,107 @@ def test_an_import_that_is_cut_short_is_kept_as_far_as_it_came(
     assert sat.lines[0].endswith(
         "version 9, table en, last kept: 1 paragraph of the import"
     )
+
+
+@pytest.fixture
+def other(moon: Path) -> Path:
+    """Another book, of one paragraph."""
+    path = moon.with_name("other.braildesk")
+    braildesk.new_book(path)
+    with Session(path) as session:
+        session.put_table("en", (ROOT / "sample" / "plain.utb").read_bytes())
+        session.add_paragraph("end", "en", "The stars")
+    return path
+
+
+def while_read(patch: pytest.MonkeyPatch, deed: Callable[[], object]) -> None:
+    """Has something be done while the text of an import is read."""
+
+    def then_taken(*words: Any) -> Any:
+        deed()
+        return taken(*words)
+
+    patch.setattr("braildesk.desk.import_text.taken", then_taken)
+
+
+def test_nobody_else_has_the_book_while_a_document_is_read(
+    moon: Path, other: Path, sit: Sit, monkeypatch: pytest.MonkeyPatch
+) -> None:
+    whys: list[Why] = []
+
+    def had() -> None:
+        try:
+            Session(moon).close()
+        except CannotOpen as refused:
+            whys.append(refused.why)
+        try:
+            braildesk.copy(other, moon, overwrite=True)
+        except CannotOpen as refused:
+            whys.append(refused.why)
+
+    while_read(monkeypatch, had)
+    text = moon.with_name("text.md")
+    text.write_text("The *sun*\n")
+    sat = sit(moon)
+    sat.press("s", "i", *str(text), "enter")
+    sat.state = sat.desk.away(sat.state, lambda line: None)
+    assert whys == [Why.IN_USE, Why.IN_USE]
+    assert sat.state.kept == "kept: 1 paragraph typed, number 4, by the table en"
+    with Session(closed(sat)) as session:
+        assert [session.print_of(each.id) for each in session.paragraphs()] == [
+            "The moon is far away.",
+            "The sun",
+            "The Tides",
+            "Twice a day the sea comes up.",
+        ]
+        assert session.paragraphs()[0].struck
+
+
+@pytest.mark.parametrize("print_", ["The *sun*\n", "\n"])
+def test_nothing_is_imported_into_another_book_that_is_put_there_while_a_document_is_read(
+    moon: Path,
+    other: Path,
+    sit: Sit,
+    monkeypatch: pytest.MonkeyPatch,
+    print_: str,
+) -> None:
+    while_read(monkeypatch, lambda: os.replace(other, moon))
+    text = moon.with_name("text.md")
+    text.write_text(print_)
+    sat = sit(moon)
+    sat.press("s", "i", *str(text), "enter")
+    sat.state = sat.desk.away(sat.state, lambda line: None)
+    saved = Path(f"{moon}-saved-1")
+    assert sat.state.is_lost and sat.state.pages
+    assert str(saved) in " ".join(sat.state.pages.lines)
+    with Session(saved) as session:
+        assert len(session.paragraphs()) == 3 and session.paragraphs()[0].struck
+    with Session(moon) as session:
+        assert len(session.paragraphs()) == 1
+    sat.press("enter")
+    assert sat.state.message.startswith("The file that is at the path now is open.")
+
+
+def test_nothing_is_imported_into_another_book_that_is_put_there_before_it(
+    moon: Path, other: Path, sit: Sit, monkeypatch: pytest.MonkeyPatch
+) -> None:
+    def then_done(path: Path, *words: Any) -> ActionResult:
+        os.replace(other, path)
+        return done_in_background(path, *words)
+
+    monkeypatch.setattr("scribe.screen.desk.done_in_background", then_done)
+    text = moon.with_name("text.txt")
+    text.write_text("The sun\n")
+    sat = sit(moon)
+    sat.press("s", "i", *str(text), "enter")
+    sat.state = sat.desk.away(sat.state, lambda line: None)
+    assert sat.state.is_lost and sat.state.pages
+    assert sat.state.pages.lines[0] == (
+        f"Another file was put at “{moon}” as the import began. It isn't the book that was open, so"
+        " nothing was typed. Look first what is there."
+    )
+    with Session(moon) as session:
+        assert len(session.paragraphs()) == 1
 
 
 def test_what_is_kept_of_an_import_is_said_also_if_another_program_has_the_book_then(

@@ -15,11 +15,12 @@ from PyQt6.QtCore import QMimeData, QPointF, Qt, QTimer, QUrl
 from PyQt6.QtGui import QDropEvent
 from PyQt6.QtWidgets import QApplication, QDialog, QLabel
 
-from braildesk import Session, Style, requests
+from braildesk import CannotOpen, Session, Style, Why, copy, new_book, requests
 from braildesk.desk.drafts import Drafts
 from braildesk.desk.export import Job
 from braildesk.desk.import_text import Import
 from braildesk.desk.layout import PageSize
+from braildesk.desk.manuscripts import taken
 from braildesk.text.spans import Span
 
 from scribe.window import dialogs
@@ -495,6 +496,76 @@ def test_the_history_says_who_changed_what(
         (title, ["Nothing was corrected yet."]),
         (title, ["Correction 1, by anna, for 4 characters: The [Sun]"]),
     ]
+
+
+@pytest.fixture
+def other(moon: Path) -> Path:
+    """A book without a paragraph."""
+    path = moon.with_name("other.braildesk")
+    new_book(path)
+    return path
+
+
+def _while_read(patch: pytest.MonkeyPatch, deed: Callable[[], object]) -> None:
+    """Has something be done while the text of an import is read."""
+
+    def then_taken(*words: Any) -> Any:
+        deed()
+        return taken(*words)
+
+    patch.setattr("braildesk.desk.import_text.taken", then_taken)
+
+
+def test_nobody_else_has_the_book_while_a_document_is_read(
+    desk: Desk,
+    other: Path,
+    given: Answers,
+    monkeypatch: pytest.MonkeyPatch,
+    tmp_path: Path,
+) -> None:
+    whys: list[Why] = []
+
+    def had() -> None:
+        try:
+            Session(desk.path).close()
+        except CannotOpen as refused:
+            whys.append(refused.why)
+        try:
+            copy(other, desk.path, overwrite=True)
+        except CannotOpen as refused:
+            whys.append(refused.why)
+
+    _while_read(monkeypatch, had)
+    desk.act("heading")
+    (text := tmp_path / "tides.md").write_text("One *and*.\n\nTwo.\n")
+    desk.window.dropped.emit(text)
+    assert whys == [Why.IN_USE, Why.IN_USE]
+    said = "2 paragraphs typed, numbers 4 to 5, by the table en."
+    assert desk.window.message.text == said
+    assert [each.id for each in desk.contents.paragraphs] == [1, 4, 5, 2, 3]
+
+
+@pytest.mark.parametrize("print_", ["One *and*.\n", "\n"])
+def test_nothing_is_imported_into_another_book_that_is_put_there_while_a_document_is_read(
+    desk: Desk,
+    other: Path,
+    given: Answers,
+    monkeypatch: pytest.MonkeyPatch,
+    tmp_path: Path,
+    print_: str,
+) -> None:
+    _while_read(monkeypatch, lambda: os.replace(other, desk.path))
+    before = desk.contents.version
+    desk.act("heading")
+    (text := tmp_path / "tides.md").write_text(print_)
+    desk.window.dropped.emit(text)
+    saved = Path(f"{desk.path}-saved-1")
+    assert desk.is_closed and str(saved) in desk.window.message.text
+    assert any(str(saved) in line for line in given["said"])
+    with Session(saved) as session:
+        assert (session.last_version, len(session.paragraphs())) == (before + 1, 3)
+    with Session(desk.path) as session:
+        assert session.last_version == 0
 
 
 def test_what_an_import_did_is_said_also_if_another_program_has_the_book_after_it(

@@ -9,7 +9,7 @@ from pathlib import Path
 from types import TracebackType
 from typing import TYPE_CHECKING, Self
 
-from braildesk import After, Refused, Session, translate
+from braildesk import After, Displaced, Refused, Session, translate
 from braildesk.desk.documents.kinds import ManuscriptKind, is_of_kind, kind_of
 from braildesk.desk.documents.options import BRACKETS, BULLET, ReadingOptions
 from braildesk.desk.drafts import Drafts, NotKept
@@ -42,7 +42,7 @@ from braildesk.named_files import is_handed_over
 from braildesk.protocol.value import Value
 from braildesk.session import session_beside
 from braildesk.text import limits
-from braildesk.text.characters import characters_in
+from braildesk.text.characters import characters_in, shortened
 
 
 if TYPE_CHECKING:
@@ -75,6 +75,8 @@ class Import(Value):
     while_waiting: Callable[[], None] = lambda: None
     #: Raises what ends the import, and is called while a table is asked for its braille.
     check: Callable[[], None] = lambda: None
+    #: The file that a screen had open until now. Nobody else is to have it from the first moment on.
+    held: os.stat_result | None = None
 
     @property
     def kind(self) -> ManuscriptKind:
@@ -165,7 +167,8 @@ class Importer:
     """Imports a text step by step: `prepare` judges all of it, and then `type_text` types it.
 
     From the judging on nobody else has the book, until the end of the `with` block or of the typing,
-    or until it is let go; then `hold_again` comes before the typing.
+    or until it is let go; then `hold_again` comes before the typing. One that a screen had open is held
+    from the beginning, and isn't let go.
     It is noted until it is done. If that can't be, this is reported, and the import goes on.
     """
 
@@ -184,6 +187,8 @@ class Importer:
         self._characters: set[str] = set()
         self._open = ExitStack()
         self._is_let_go = False
+        #: Whether the session is open from the beginning.
+        self._is_held = False
 
     def __enter__(self) -> Self:
         return self
@@ -194,22 +199,56 @@ class Importer:
         error: BaseException | None,
         trace: TracebackType | None,
     ) -> None:
+        if self._is_held:
+            # what a screen kept is at stake, so that its loss comes before what else ends the import
+            kind = error = trace = None
         self._open.__exit__(kind, error, trace)
 
     def prepare(self) -> Intake:
         """What is to be typed, once nothing stands in its way; raises `NotImported`."""
+        self._hold()
         data = self._data = bytes_of(self.job.text)
         self._earlier = self._noted()
-        self.job = self._decided(self._earlier, self.job.opened)
+        self.job = self._decided(self._earlier, self._opened)
         if self.job.way is not Way.GO_ON:
             self.job = self._chosen(data)
         whole = self.taken = _taken(self.job, data)
         self._parts = _parted(self.job, whole.passages)
         # a book may be changed by being opened, so that its text is read before
-        with self.job.opened_beside() as opened:
+        with self._opened_beside() as opened:
             self._characters = characters_in(whole.data)
             self._session = self._open.enter_context(opened())
         return self._judged()
+
+    def _hold(self) -> None:
+        """Opens a book that a screen had open, before anything is read; raises `Displaced` for another."""
+        job = self.job
+        if job.held is None:
+            return
+        session = self._open.enter_context(job.opened())
+        if not os.path.samestat(file_of(session, job.book), job.held):
+            book = os.fspath(job.book)
+            raise Displaced(
+                f"Another file was put at {shortened(book, len(book))} as the import began.",
+                "It isn't the book that was open, so nothing was typed. Look first what is there.",
+                None,
+                0,
+                session.last_version,
+            )
+        session.guard()
+        self._session, self._is_held = session, True
+
+    def _opened(self) -> AbstractContextManager[Session]:
+        """The session by which the book is held from the beginning, or another one."""
+        if self._is_held:
+            return nullcontext(self._session)
+        return self.job.opened()
+
+    def _opened_beside(self) -> AbstractContextManager[Callable[[], Session]]:
+        """The same, which is opened while something else is done."""
+        if self._is_held:
+            return nullcontext(lambda: self._session)
+        return self.job.opened_beside()
 
     @property
     def job_again(self) -> Import:
@@ -225,9 +264,13 @@ class Importer:
         return self._session.fileno()
 
     def let_go(self) -> None:
-        """Lets others have the book, as while a person reads what is lost of the text."""
-        self._open.close()
-        self._is_let_go = True
+        """Lets others have the book, as while a person reads what is lost of the text.
+
+        One that is held from the beginning isn't let go.
+        """
+        if not self._is_held:
+            self._open.close()
+            self._is_let_go = True
 
     def hold_again(self, intake: Intake) -> Intake:
         """What is to be typed, judged anew if the book was let go, since it may be another now.
@@ -291,11 +334,26 @@ class Importer:
         if kind.is_document:
             if job.by_lines:
                 raise OfTexts(job.text, kind)
-            reading = _signs_for(job, reading)
+            reading = self._signs_for(reading)
         elif job.how.volumes is not None or reading.notes_at_end:
             raise OfDocuments(job.text)
         how = replace(job.how, reading=reading, replacements=self._replacements())
         return replace(job, how=how)
+
+    def _signs_for(self, reading: ReadingOptions) -> ReadingOptions:
+        """The reading with signs that the table has: another bullet and brackets if it lacks the usual."""
+        job = self.job
+        with self._opened() as session:
+            anchor = paragraph_before(session.paragraphs(), job.after)
+            table = table_for(session.tables(), anchor, job.table)
+        bullet, *brackets = translate(
+            table, [BULLET, *BRACKETS], while_waiting=job.check
+        )
+        if isinstance(bullet, Refused):
+            reading = replace(reading, bullet="-")
+        if any(isinstance(each, Refused) for each in brackets):
+            reading = replace(reading, brackets="()")
+        return reading
 
     def _replacements(self) -> Pairs:
         """The characters of the file that stand in place of others, or those that were kept."""
@@ -386,6 +444,15 @@ class Importer:
         return job
 
 
+def file_of(session: Session, book: Path) -> os.stat_result:
+    """The file of a book that a session has open, by which it is known again."""
+    try:
+        return os.fstat(session.fileno())
+    except ValueError:
+        # it could not be opened beside the program
+        return book.stat()
+
+
 def bytes_of(path: Path) -> bytes:
     """The bytes of a manuscript; raises `CantRead`."""
     try:
@@ -442,19 +509,6 @@ def _parted(
     if job.way is Way.GO_ON and line > whole[-1].last_line:
         return tuple(whole), ()
     return parted_at(whole, line)
-
-
-def _signs_for(job: Import, reading: ReadingOptions) -> ReadingOptions:
-    """The reading with signs that the table has: another bullet and brackets if it lacks the usual."""
-    with job.opened() as session:
-        anchor = paragraph_before(session.paragraphs(), job.after)
-        table = table_for(session.tables(), anchor, job.table)
-    bullet, *brackets = translate(table, [BULLET, *BRACKETS], while_waiting=job.check)
-    if isinstance(bullet, Refused):
-        reading = replace(reading, bullet="-")
-    if any(isinstance(each, Refused) for each in brackets):
-        reading = replace(reading, brackets="()")
-    return reading
 
 
 def _taken(job: Import, data: bytes) -> Taken:

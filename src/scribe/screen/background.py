@@ -1,12 +1,13 @@
 """What is done with the session closed: an export, and an import."""
 
+import os
 from collections.abc import Callable
 from dataclasses import dataclass, replace
 from io import BytesIO
 from pathlib import Path
 from typing import Any
 
-from braildesk import DeskError
+from braildesk import DeskError, Displaced
 from braildesk.desk import USUAL_WAIT
 from braildesk.desk.earlier import Undecided
 from braildesk.desk.export import Job
@@ -51,8 +52,12 @@ def done_in_background(
     action: ExportTo | ImportFrom,
     report: Callable[[str], None],
     check: Callable[[], None],
+    held: os.stat_result | None = None,
 ) -> ActionResult:
-    """Does an action as the command of the same name does, until the check has it end."""
+    """Does an action as the command of the same name does, until the check has it end.
+
+    An import holds the file that the screen had open; raises `Displaced` where another is there by now.
+    """
     shown, said = Heard(report), Heard(report)
     console = _Beside(BytesIO(), shown, said, check, tell=report)
     what = "Export." if isinstance(action, ExportTo) else "Import."
@@ -64,7 +69,10 @@ def done_in_background(
                     Job(path, action.folder, action.page_size, USUAL_WAIT), console
                 )
             else:
-                ending = _imported(path, action, console, ending, lacking)
+                ending = _imported(path, action, console, ending, lacking, held)
+    except Displaced:
+        # the screen goes on in no other file, as if that were its book
+        raise
     except Stop as stop:
         console.show(*stop.lines)
     except (DeskError, Interrupted) as failed:
@@ -82,6 +90,7 @@ def _imported(
     console: Console,
     ending: ActionResult,
     lacking: list[Command[Any]],
+    held: os.stat_result | None,
 ) -> ActionResult:
     """The result with what was kept by an import, or what is asked before it is done.
 
@@ -94,6 +103,7 @@ def _imported(
         after=action.after,
         way=action.way,
         wait=USUAL_WAIT,
+        held=held,
     )
     try:
         outcome = import_in_words(

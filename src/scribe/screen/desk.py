@@ -24,6 +24,7 @@ from braildesk.desk.draft import Aim, Draft, Unread
 from braildesk.desk.drafts import Drafts, LeftAt, NotKept
 from braildesk.desk.highlighting import cells_of_marks
 from braildesk.desk.history import newest_corrector
+from braildesk.desk.import_text import file_of
 from braildesk.desk.tables import NoSuchTable, table_request
 from braildesk.protocol.requests import Command
 from braildesk.text.characters import visible
@@ -365,11 +366,12 @@ class Desk:
         action: ExportTo | ImportFrom,
         report: Callable[[str], None],
     ) -> State:
-        """Exports or imports, for which others may have the book, and opens it again."""
+        """Exports, while which others may have the book, or imports, and opens the book again."""
         ending = ActionResult("", ())
         try:
+            held = file_of(self._session, self.path)
             self._session.close()
-            ending = done_in_background(self.path, action, report, self._check)
+            ending = done_in_background(self.path, action, report, self._check, held)
             if ending.kept:
                 # also if the book can't be opened again
                 state = replace(state, kept=f"kept: {ending.kept}")

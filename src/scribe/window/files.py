@@ -7,11 +7,11 @@ from io import BytesIO
 from pathlib import Path
 from typing import Any
 
-from braildesk import After, DeskError, Lost
+from braildesk import After, DeskError, Displaced, Lost
 from braildesk.desk import USUAL_WAIT
 from braildesk.desk.earlier import Undecided, Way
 from braildesk.desk.export import Job
-from braildesk.desk.import_text import Import
+from braildesk.desk.import_text import Import, file_of
 from braildesk.desk.intake import Intake
 from braildesk.desk.proof import open_marks, proof_pages
 from braildesk.desk.whole_file import Access, write_whole
@@ -175,7 +175,13 @@ class Files:
         after: After = desk.number if desk.number is not None else "end"
         table = desk.table_of_new()
         job = Import(
-            desk.path, path, table=table, after=after, way=way, wait=USUAL_WAIT
+            desk.path,
+            path,
+            table=table,
+            after=after,
+            way=way,
+            wait=USUAL_WAIT,
+            held=file_of(desk.book.session, desk.path),
         )
         if way is Way.GO_ON:
             job = replace(job, table=None, after="end")
@@ -317,6 +323,9 @@ def _told(
     except Stop as stop:
         console.say(*stop.lines)
         return 0
+    except Displaced:
+        # the window goes on in no other file, as if that were its book
+        raise
     except DeskError as failed:
         console.say(failed.sentence)
     except Interrupted:
