@@ -694,3 +694,24 @@ def test_a_link_of_another_user_by_which_the_book_is_named_is_said_first(
     assert desk.window.message.text.startswith(
         f"“{link}” is a link of another user, and leads to “{moon}”."
     )
+
+
+@pytest.mark.parametrize("act", ["undo_here", "take_back"])
+def test_a_mark_in_hand_that_stands_elsewhere_once_a_correction_is_taken_back_is_let_go(
+    desk: Desk, act: str
+) -> None:
+    desk.choose(1)
+    desk.act("to_print")
+    far = Span(11, 14)
+    cells = desk.asked(lambda: desk.book.cells_of(2, far))
+    desk.do(requests.Mark(2, cells.start, cells.stop - cells.start, "so?"))
+    desk.do(requests.Correct(2, 0, 3, "It, the"))
+    assert desk.reading is not None
+    desk.in_hand = desk.reading.its.marks[-1].id
+    desk.window.print.put_caret(15)
+    desk.link()
+    assert "so?" in desk.window.here.text
+    desk.act("to_message")
+    desk.act(act)
+    assert (desk.window.print.text, desk.place) == ("The mon is far away.", 15)
+    assert "so?" not in desk.window.here.text and desk.in_hand is None

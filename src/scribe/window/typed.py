@@ -69,6 +69,8 @@ class Typed:
         try:
             desk.show_done(desk.long("Take back", self._back))
             desk.window.model.all_unread()
+            # a mark in hand may stand elsewhere now than the caret, which wasn't moved
+            desk.link(True)
         except NothingToTakeBack:
             said = "There is nothing that Ctrl+Z could take back."
             if self._is_corrected():
@@ -163,6 +165,8 @@ class Typed:
             raise Stop(_NOT_YET)
         number = self.desk.settled()
         self.desk.do(requests.Undo(number))
+        # as above
+        self.desk.link(True)
 
     def give_up(self) -> None:
         """Gives up what is typed, which can be brought back."""
