@@ -1,6 +1,8 @@
 """The book opens where it was left; and what stands in the place of that note is no fault."""
 
+import errno
 import json
+import os
 import shutil
 import signal
 import time
@@ -11,7 +13,7 @@ import pytest
 from braildesk import Session
 from braildesk.desk.draft import Aim, Draft
 from braildesk.desk.drafts import Begun, Drafts, LeftAt
-from braildesk.desk.own_folder import MOST_BYTES
+from braildesk.desk.own_folder import MOST_BYTES, OwnFolder
 
 from scribe.screen.state import Pane, Size
 from sitting import Sat, Sit
@@ -163,6 +165,26 @@ def test_where_nothing_can_be_kept_the_book_is_left_all_the_same(
     sat.press("down")
     left(sat)
     assert Drafts(moon).left_at() is None
+
+
+def test_a_book_whose_place_found_no_room_is_not_opened_where_it_was_left_before(
+    moon: Path, sit: Sit, monkeypatch: pytest.MonkeyPatch
+) -> None:
+    sat = sit(moon)
+    sat.press("down")
+    left(sat)
+
+    def full(folder: OwnFolder, name: str, data: bytes) -> None:
+        raise OSError(errno.ENOSPC, os.strerror(errno.ENOSPC))
+
+    with monkeypatch.context() as patched:
+        patched.setattr(OwnFolder, "write", full)
+        sat = sit(moon)
+        sat.press("down")
+        left(sat)
+    again = sit(moon)
+    assert again.state.chosen == 0
+    assert "where it was left" not in again.state.message
 
 
 def test_a_copy_of_a_book_opens_at_its_front(moon: Path, sit: Sit) -> None:

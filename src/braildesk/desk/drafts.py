@@ -210,11 +210,13 @@ class Drafts:
             return None
 
     def leave_at(self, place: LeftAt) -> None:
-        """Keeps where the book is left; nothing is lost if that can't be kept."""
+        """Keeps where the book is left; where that can't be kept, it isn't known where it was."""
         try:
             self._write(Begun.LEFT_AT, asdict(place))
         except NotSaved:
-            pass
+            # the place from before isn't that at which it was left
+            with suppress(NotKept):
+                self._remove(Begun.LEFT_AT)
 
     def cut(self) -> str:
         """What was cut out of a text and not put in again; what can't be read is no fault."""
