@@ -1,8 +1,11 @@
 """`scribe change`: words put in place of others, by the smallest correction."""
 
+import signal
 from pathlib import Path
 
 import pytest
+from stand_in import KEPT, KILL_PROGRAM, READ, REPLY, SIGNAL
+from terminal import standing_in
 from tool import Ran, scribe
 
 from braildesk import Entry, Kind, Session
@@ -171,4 +174,113 @@ def test_a_long_line_is_shown_around_what_changed(book: Path) -> None:
         "Paragraph 1: …sea the sea [sun] the sea the sea…\n"
         "Before: …the sea the sea [moon] the sea the sea…\n"
         "The book is at version 3.\n"
+    )
+
+
+@pytest.fixture
+def marked(moon: Path) -> Path:
+    """A book with an open mark and a resolved one, between words that are going to change."""
+    with Session(moon) as session:
+        session.add_mark(1, session.output_position(1, 8), 5, "stood so?")
+        session.add_mark(1, session.output_position(1, 14), 2, "on?")
+        session.resolve_mark(2)
+    return moon
+
+
+OLD, NEW = "men stood on the mooon,", "women stood on the moon,"
+
+
+def spans(book: Path) -> list[tuple[str, bool]]:
+    """The words on which the marks of a paragraph are, and whether these were touched."""
+    with Session(book) as session:
+        text, marks = session.print_of(1), session.marks_of(1)
+    return [(text[mark.start : mark.stop], mark.touched) for mark in marks]
+
+
+def test_marks_between_words_that_change_stay_on_their_words(marked: Path) -> None:
+    assert change(marked, "1", OLD, NEW, "--by", "anna") == Ran(
+        0,
+        "Paragraph 1: Two [women stood on the moon,] on the mooon.\n"
+        "Before: Two [men stood on the mooon,] on the mooon.\n"
+        "These are 2 corrections, with marked words left between: undo takes back one at a"
+        " time.\n"
+        "The book is at version 9.\n",
+        "",
+    )
+    assert spans(marked) == [("stood", False), ("on", False)]
+    assert history(marked) == (
+        Entry(1, Kind.CORRECT, 24, 1, "", "anna", None),
+        Entry(2, Kind.CORRECT, 4, 0, "wo", "anna", None),
+    )
+    for _ in range(2):
+        assert scribe("undo", marked, "1", folder=marked.parent).status == 0
+    with Session(marked) as session:
+        assert session.print_of(1) == "Two men stood on the mooon, on the mooon."
+    assert spans(marked) == [("stood", False), ("on", False)]
+
+
+def test_a_change_around_marks_is_refused_as_a_whole_for_what_the_table_lacks(
+    marked: Path,
+) -> None:
+    for new, number, around in (
+        ("women stood on the moěn,", 22, "stood on the moěn,"),
+        ("woměn stood on the moon,", 4, "woměn stood on the moon,"),
+    ):
+        ran = change(marked, "1", OLD, new)
+        assert (ran.status, ran.shown) == (2, "")
+        assert ran.said == (
+            "The table of paragraph 1 has no cells for “ě” (U+011B LATIN SMALL LETTER E WITH"
+            f" CARON), character {number} of the new text: “{around}”."
+            " Nothing was changed.\n"
+        )
+    assert history(marked) == ()
+
+
+HALF_KEPT = "Of 2 corrections 1 is in the book. The book is at version 8.\n"
+
+
+def test_how_much_of_a_change_is_kept_is_said_where_the_rest_is_refused(
+    marked: Path,
+) -> None:
+    its = standing_in(2, READ, REPLY, "no 15 10000")
+    ran = scribe(
+        "change", marked, "1", OLD, NEW, folder=marked.parent, before=None, **its
+    )
+    assert (ran.status, ran.shown) == (2, "")
+    assert ran.said.endswith(HALF_KEPT)
+    assert "Nothing was changed" not in ran.said
+    assert len(history(marked)) == 1
+
+
+@pytest.mark.parametrize("at, said", [(1, ""), (2, HALF_KEPT)])
+def test_how_much_of_a_change_is_kept_is_said_where_its_session_ends(
+    marked: Path, at: int, said: str
+) -> None:
+    its = standing_in(at, READ, KILL_PROGRAM)
+    ran = scribe(
+        "change", marked, "1", OLD, NEW, folder=marked.parent, before=None, **its
+    )
+    assert (ran.status, ran.shown) == (3, "")
+    version = 6 + at
+    assert ran.said.startswith(said)
+    assert ran.said.endswith(
+        f"The book was opened again: it is at version {version}, as before, and what was"
+        " asked last is not in it.\n"
+    )
+    assert len(history(marked)) == at - 1
+
+
+def test_how_much_of_a_change_is_kept_is_said_where_it_is_stopped(
+    marked: Path,
+) -> None:
+    its = standing_in(2, KEPT, SIGNAL, "SIGINT")
+    ran = scribe(
+        "change", marked, "1", OLD, NEW, folder=marked.parent, before=None, **its
+    )
+    kept = len(history(marked))
+    assert (ran.status, ran.shown) == (-signal.SIGINT, "")
+    is_are = "is" if kept == 1 else "are"
+    assert ran.said == (
+        f"Stopped. Of 2 corrections {kept} {is_are} in the book."
+        f" The book is at version {7 + kept}.\n"
     )

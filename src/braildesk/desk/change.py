@@ -2,10 +2,12 @@
 
 from dataclasses import dataclass, replace
 
-from braildesk import Mark, Refused, Session, Undefined
+from braildesk import DeskError, Lost, Mark, Refused, Session, Undefined, translate
 from braildesk.desk import Problem
-from braildesk.desk.correction import replaced, smallest_correction
+from braildesk.desk.around_marks import corrections, prints_between
+from braildesk.desk.correction import Correction, replaced, smallest_correction
 from braildesk.desk.places import Words, place_in
+from braildesk.desk.readings import paragraph_of
 from braildesk.protocol.requests import Correct
 from braildesk.refusals import refused_as
 from braildesk.text.spans import Span
@@ -26,19 +28,43 @@ class Change:
     came: Span
     went: Span
     touched: tuple[Mark, ...]
+    #: How many corrections it was.
+    corrections: int = 1
 
 
-def change_words(
-    session: Session, words: Words, new: str, by: str | None = None
-) -> Change:
-    """Makes the smallest correction that puts new words in place of words of a paragraph.
+@dataclass(frozen=True)
+class Planned:
+    """A change of a print that isn't made yet, as the corrections that are sent one after the other.
+
+    The marks are those of the paragraph before it.
+    """
+
+    paragraph: int
+    before: str
+    went: Span
+    new: str
+    corrections: tuple[Correction, ...]
+    marks: tuple[Mark, ...]
+
+
+def planned(session: Session, words: Words, new: str) -> Planned:
+    """How new words come in place of words of a paragraph, with the marks left on words that stay.
 
     Raises `NoPlace`, `ManyPlaces` and `SameWords`.
     """
-    before = session.print_of(words.paragraph)
-    asked = Correct(words.paragraph, 0, 0, new)
-    went = place_in(session, words, before, asked)
-    return change_place(session, words.paragraph, before, went, new, by)
+    number = words.paragraph
+    before = session.print_of(number)
+    went = place_in(session, words, before, Correct(number, 0, 0, new))
+    after = replaced(before, went.start, went.stop, new)
+    marks = session.marks_of(number)
+    parts = corrections(before, after, marks)
+    if not parts:
+        raise SameWords
+    prints = prints_between(before, parts)
+    if prints and not _has_cells(session, number, [*prints, after]):
+        # it is refused, or kept, as a whole
+        parts = corrections(before, after, ())
+    return Planned(number, before, went, new, parts, marks)
 
 
 def change_place(
@@ -53,22 +79,33 @@ def change_place(
 
     Raises `SameWords`.
     """
-    version = session.last_version
     least = smallest_correction(before, replaced(before, went.start, went.stop, new))
     if least is None:
         raise SameWords
     marks = session.marks_of(number)
-    try:
-        session.correct(
-            number, least.start, least.count, least.text, by=by, expect=version
-        )
-    except Undefined as refused:
-        raise _of_all(refused, went, new) from None
+    return change_by(session, Planned(number, before, went, new, (least,), marks), by)
+
+
+def change_by(session: Session, plan: Planned, by: str | None = None) -> Change:
+    """Makes the corrections of a change, each of which is kept before the next one is made."""
+    number, before, went = plan.paragraph, plan.before, plan.went
+    version = session.last_version
+    for part in plan.corrections:
+        try:
+            session.correct(
+                number, part.start, part.count, part.text, by=by, expect=version
+            )
+        except Undefined as refused:
+            if len(plan.corrections) > 1:
+                raise
+            raise _of_all(refused, went, plan.new) from None
+        version = session.last_version
     now = session.print_of(number)
     kept = len(before) - went.stop
     came = Span(went.start, max(went.start, len(now) - kept))
-    touched = newly_touched(marks, session.marks_of(number))
-    return Change(session.last_version, number, now, before, came, went, touched)
+    touched = newly_touched(plan.marks, session.marks_of(number))
+    count = len(plan.corrections)
+    return Change(version, number, now, before, came, went, touched, count)
 
 
 def newly_touched(before: tuple[Mark, ...], now: tuple[Mark, ...]) -> tuple[Mark, ...]:
@@ -84,3 +121,17 @@ def _of_all(refused: Undefined, went: Span, new: str) -> Refused:
         count = went.stop - went.start
         asked = replace(asked, start=went.start, count=count, text=new)
     return refused_as(replace(refused.refusal, asked=asked))
+
+
+def _has_cells(session: Session, number: int, prints: list[str]) -> bool:
+    """Whether the table of a paragraph has cells for prints, as far as that can be seen."""
+    its = paragraph_of(session, number)
+    assert its is not None
+    try:
+        (table,) = (each for each in session.tables() if each.name == its.table)
+        return not any(isinstance(each, Refused) for each in translate(table, prints))
+    except Lost:
+        raise
+    except DeskError:
+        # the book itself judges each
+        return True

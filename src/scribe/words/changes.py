@@ -289,8 +289,23 @@ def _volume(paragraph: Paragraph) -> str:
 
 
 def change_lines(change: Change, width: int) -> list[str]:
-    """What was changed, and at which version the book is."""
-    return [*changed_lines(change, width), at_version(change.version)]
+    """What was changed, by how many corrections if not by one, and at which version the book is."""
+    lines = changed_lines(change, width)
+    if change.corrections > 1:
+        lines.append(
+            f"These are {change.corrections:,} corrections, with marked words left between:"
+            " undo takes back one at a time."
+        )
+    return [*lines, at_version(change.version)]
+
+
+def kept_of(done: int, count: int, version: int) -> str:
+    """What is in the book if the corrections of a change were stopped among them."""
+    if not done:
+        return f"Nothing was changed. {at_version(version)}"
+    is_are = "is" if done == 1 else "are"
+    whole = counted(count, "correction")
+    return f"Of {whole} {done:,} {is_are} in the book. {at_version(version)}"
 
 
 def changed_lines(change: Change, width: int) -> list[str]:

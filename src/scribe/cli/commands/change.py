@@ -1,22 +1,25 @@
 """`scribe change`: words put in place of others."""
 
 from argparse import Namespace
+from contextlib import nullcontext
 
 from braildesk import Session
-from braildesk.desk.change import change_words
+from braildesk.desk.change import change_by, planned
 from braildesk.desk.places import Words
 from braildesk.protocol.requests import Correct
 
 from scribe.cli.book_command import BookCommand, add_nth
+from scribe.cli.opened_book import said_where_stopped
 from scribe.cli.parser import Parser, add_paragraph, add_width, argument
-from scribe.words.changes import change_lines
+from scribe.words.changes import change_lines, kept_of
 from scribe.words.console import Console
 from scribe.words.typed import text, words
 
 MORE = """\
 OLD has to be in the paragraph just once; if it is there more often, --nth says which
 place is meant. The fewest characters are corrected, so that a mark whose words stay as
-they are is not touched. The line is shown as it is now, and as it was before."""
+they are is not touched: around such words it may be more than one correction. The line
+is shown as it is now, and as it was before."""
 EXAMPLE = "scribe change moon.braildesk 1 'far away' 'very far away' --by anna"
 
 
@@ -46,7 +49,16 @@ def add_words(parser: Parser) -> None:
 def answer(session: Session, arguments: Namespace, console: Console) -> None:
     """Puts the new words in place of the old, and shows both."""
     where = Words(arguments.paragraph, arguments.old, arguments.nth)
-    change = change_words(session, where, arguments.new, arguments.by)
+    plan = planned(session, where, arguments.new)
+    count = len(plan.corrections)
+    among = said_where_stopped(
+        session,
+        arguments,
+        console,
+        lambda done, version: kept_of(done, count, version),
+    )
+    with among if count > 1 else nullcontext():
+        change = change_by(session, plan, arguments.by)
     console.show(*change_lines(change, console.columns))
 
 

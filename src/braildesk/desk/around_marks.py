@@ -1,0 +1,127 @@
+"""The corrections that make one print of another and leave alone the words on which marks stand.
+
+A mark within what a correction takes away covers all that came in, for good. So an edit that changes
+a print at several places is parted where a mark stands between them, on words that stay as they are.
+"""
+
+from collections import Counter
+from collections.abc import Iterable, Iterator, Sequence
+from dataclasses import replace
+from itertools import groupby
+
+from braildesk import Mark
+from braildesk.desk.correction import Correction, smallest_correction
+from braildesk.text import limits
+from braildesk.text.cells import BLANKS
+from braildesk.text.sequences import seams, sequences
+from braildesk.text.spans import Span
+
+#: Words are put beside each other where that takes no more steps than about a second has.
+_MOST_STEPS = 10_000_000
+#: A stretch of a print that stays, and how much further on it stands in the other print.
+_Stay = tuple[Span, int]
+
+
+def corrections(old: str, new: str, marks: Iterable[Mark]) -> tuple[Correction, ...]:
+    """The corrections that make the new print of the old one, none if they are the same.
+
+    The last of the print comes first, so that each is right once those before it are made. It is the
+    smallest one alone unless a mark of the paragraph lies within that, on words that stay.
+    """
+    least = smallest_correction(old, new)
+    if least is None:
+        return ()
+    within = [
+        Span(mark.start, mark.stop)
+        for mark in marks
+        if least.start <= mark.start < mark.stop <= least.stop
+    ]
+    parts = _parted(old, new, _stays(old, new, least, within) if within else [])
+    is_long = any(
+        len(text) > limits.PRINT_CHARACTERS for text in prints_between(old, parts)
+    )
+    return (least,) if is_long else parts
+
+
+def prints_between(old: str, parts: Sequence[Correction]) -> list[str]:
+    """The prints after each of some corrections but the last, as they are made of one in turn."""
+    prints = []
+    for part in parts[:-1]:
+        old = part.applied(old)
+        prints.append(old)
+    return prints
+
+
+def _parted(old: str, new: str, stays: Iterable[_Stay]) -> tuple[Correction, ...]:
+    """The smallest corrections before, between and after stretches that stay, the last one first."""
+    parts: list[Correction] = []
+    here = there = 0
+    end = Span(len(old), len(old)), len(new) - len(old)
+    for (start, stop), further in [*sorted(stays), end]:
+        start = max(start, here)
+        if start + further < there:
+            # beside a stretch that it overlaps, other words came in
+            continue
+        part = smallest_correction(old[here:start], new[there : start + further])
+        if part is not None:
+            parts.insert(0, replace(part, start=here + part.start))
+        here = max(stop, here)
+        there = here + further
+    return tuple(parts)
+
+
+def _stays(
+    old: str, new: str, least: Correction, spans: Iterable[Span]
+) -> Iterator[_Stay]:
+    """The words of some spans that stay as they are while others beside them change."""
+    before = _words(old, least.start, least.stop)
+    further = _further(old, new, before, least)
+    ends, new_ends = set(seams(old)), set(seams(new))
+    for span in spans:
+        its = [
+            word for word in before if word.start < span.stop and span.start < word.stop
+        ]
+        by = further.get(its[0]) if its else None
+        if by is None:
+            continue
+        start, stop = min(its[0].start, span.start), max(its[-1].stop, span.stop)
+        is_seam = {start, stop} <= ends and {start + by, stop + by} <= new_ends
+        if is_seam and old[start:stop] == new[start + by : stop + by]:
+            yield Span(start, stop), by
+
+
+def _further(
+    old: str, new: str, before: Sequence[Span], least: Correction
+) -> dict[Span, int]:
+    """Of the words that change or stand between such words, those that stay, and how much further on."""
+    from difflib import SequenceMatcher  # which few edits need
+
+    after = _words(new, least.start, least.start + len(least.text))
+    some = [old[word.start : word.stop] for word in before]
+    others = [new[word.start : word.stop] for word in after]
+    if _steps(some, others) > _MOST_STEPS:
+        return {}
+    found = SequenceMatcher(None, some, others, autojunk=False).get_matching_blocks()
+    return {
+        before[one + nth]: after[other + nth].start - before[one + nth].start
+        for one, other, size in found
+        for nth in range(size)
+    }
+
+
+def _words(text: str, start: int, stop: int) -> list[Span]:
+    """The words of a text that have a character from one place to another."""
+    words, place = list[Span](), 0
+    for is_blank, pieces in groupby(sequences(text), lambda piece: piece in BLANKS):
+        end = place + sum(map(len, pieces))
+        if not is_blank and place < stop and start < end:
+            words.append(Span(place, end))
+        place = end
+    return words
+
+
+def _steps(some: Sequence[str], others: Sequence[str]) -> int:
+    """How many steps it takes at most to put words beside others."""
+    counts = Counter(others)
+    pairs = sum(counts[word] for word in some)
+    return sum(word in counts for word in some) * (len(some) + pairs)
