@@ -18,8 +18,9 @@ from braildesk import (
     requests,
 )
 from braildesk.desk import aftermath
+from braildesk.desk.around_marks import corrections, prints_between
 from braildesk.desk.change_all import Replacement
-from braildesk.desk.correction import place_kept, smallest_correction
+from braildesk.desk.correction import Correction, place_kept, smallest_correction
 from braildesk.desk.draft import Aim, Draft, Unread
 from braildesk.desk.drafts import Drafts, LeftAt, NotKept
 from braildesk.desk.highlighting import cells_of_marks
@@ -116,8 +117,8 @@ from scribe.screen.waiting import (
 from scribe.words import deeds, pagelook
 from scribe.words.aftermath import deed_found, found_again, kept_alone
 from scribe.words.change_all import STAY
-from scribe.words.changes import not_given
-from scribe.words.deeds import Deed, kept
+from scribe.words.changes import edit_in_part, not_given
+from scribe.words.deeds import Deed, kept, kept_parts
 from scribe.words.drafts import (
     Unsent,
     is_in_book,
@@ -144,10 +145,17 @@ _ENDED = "What is typed is still here. Enter sends it again, and what is typed o
 class _Interrupted(Exception):
     """The session failed in the middle of a step, or scribe is to end, with the state then."""
 
-    def __init__(self, state: State, cause: Lost | Refused | Interrupted) -> None:
+    def __init__(
+        self,
+        state: State,
+        cause: Lost | Refused | Interrupted,
+        begun: int | None = None,
+    ) -> None:
         super().__init__()
         self.state = state
         self.cause = cause
+        #: The version at which an edit of more than one correction began.
+        self.begun = begun
 
 
 class Desk:
@@ -506,7 +514,7 @@ class Desk:
                 # the book is asked for nothing more, and nothing is drawn
                 return interrupted.state
             state, cause = interrupted.state, interrupted.cause
-            found = self._after_failure(state, cause, True)
+            found = self._after_failure(state, cause, True, interrupted.begun)
             state = self._with_deed_found(found, state, cause, step.asked)
             if _is_gone_on_from(step.asked):
                 state = self._begun_where_typed(state)
@@ -579,14 +587,20 @@ class Desk:
             return self._after_failure(state, failed)
 
     def _after_failure(
-        self, state: State, failed: Lost | Refused, is_sent: bool = False
+        self,
+        state: State,
+        failed: Lost | Refused,
+        is_sent: bool = False,
+        begun: int | None = None,
     ) -> State:
         if isinstance(failed, Lost):
-            return self._after_loss(state, failed, is_sent=is_sent)
+            return self._after_loss(state, failed, begun, is_sent)
         if isinstance(failed, VersionConflict):
             said = "Another program changed the book, so it was opened again."
             newest = "" if state.kept == "" else _OF_OTHERS
             return replace(self._opened_anew(state, said, newest), failure=said)
+        if begun is not None and begun < state.version:
+            return state.failing(edit_in_part(state.version - begun, failed))
         return state.failing(failed.sentence)
 
     def _opened_anew(self, state: State, said: str, newest: str | None = None) -> State:
@@ -759,26 +773,59 @@ class Desk:
         """Sends a command; only what its `ok` says is said to be kept."""
         # what is sent is kept until the book has it; what is in the way is said if it has not
         self._keep(state)
-        before = state
+        before, begun = state, state.version
+        parts: tuple[Command[Any], ...] = (command,)
         try:
             resolving = self._resolving(state, command)
-            answer = self._session.ask(command)
-            deed = resolving or deeds.deed_of(command, answer, state.book)
-            state = replace(
-                state,
-                version=self._session.last_version,
-                kept=kept(command, answer),
-                typed=None,
-                preview=None,
-                deeds=(*state.deeds, deed) if deed else state.deeds,
-            )
-            return self._shown_after(state, command, answer, before)
+            parts, answers = self._parts(state, command), list[Any]()
+            for part in parts:
+                answers.append(self._session.ask(part))
+                version = self._session.last_version
+                deed = resolving or deeds.deed_of(part, answers[-1], state.book)
+                state = _with_done(state, version, kept_parts(parts, answers), deed)
+            state = replace(state, typed=None, preview=None)
+            if len(parts) > 1:
+                state = done_by_one_key(state, len(before.deeds))
+            return self._shown_after(state, command, answers[-1], before)
         except Lost as lost:
             # what is typed is looked for in the book, so that what comes after it isn't forgotten
             still = replace(before, kept=state.kept, deeds=state.deeds)
-            raise _Interrupted(still, lost) from lost
+            raise _Interrupted(still, lost, begun if len(parts) > 1 else None) from lost
         except Refused as refused:
-            raise _Interrupted(state, refused) from refused
+            if state.version > begun:
+                state = self._read_anew(state)
+            raise _Interrupted(state, refused, begun) from refused
+
+    def _read_anew(self, state: State) -> State:
+        """The state after a part of an edit was kept, with the rest typed still."""
+        book = self._session.paragraphs()
+        state = replace(state, book=book, openings={}, reading=None, highlighted=None)
+        return refreshed(self._session, state)
+
+    def _parts(self, state: State, command: Command[Any]) -> tuple[Command[Any], ...]:
+        """A command, or the corrections by which an edit leaves marks between on their words.
+
+        They are sent one after the other, if the table has cells for each print on the way.
+        """
+        its = state.reading
+        if not isinstance(command, requests.Correct) or its is None:
+            return (command,)
+        whole = Correction(command.start, command.count, command.text)
+        now = whole.applied(its.text)
+        found = corrections(its.text, now, its.marks)
+        prints = [*prints_between(its.text, found), now]
+        if len(found) < 2 or self.tables.first_fault(its.paragraph.table, prints):
+            return (command,)
+        return tuple(
+            replace(
+                command,
+                start=part.start,
+                count=part.count,
+                text=part.text,
+                expect=state.version + nth,
+            )
+            for nth, part in enumerate(found)
+        )
 
     def _shown_after(
         self, state: State, command: Command[Any], answer: Any, before: State
@@ -818,10 +865,10 @@ class Desk:
     def _taking_back(self, state: State, action: TakeBack) -> State:
         """Takes back what a key last did; what takes many commands is done beside the screen."""
         *earlier, deed = state.deeds
-        if len(deed.back) > 1:
-            return replace(state, away=action, message="Please wait.")
         if deed.paragraph is not None:
             state = refreshed(self._session, at_paragraph(state, deed.paragraph))
+        if len(deed.back) > 1:
+            return replace(state, away=action, message="Please wait.")
         command = replace(deed.back[0], expect=state.version)
         try:
             state = self._sent(state, command)
@@ -1206,6 +1253,12 @@ class Desk:
             f"Once nothing is typed any more, U brings back the {what} after this one."
         )
         return self.saved(state.saying_too(f"{back} {fault}".rstrip()))
+
+
+def _with_done(state: State, version: int, said: str, deed: Deed | None) -> State:
+    """The state after a command was kept, which is said, and brought the book to a version."""
+    done = (*state.deeds, deed) if deed else state.deeds
+    return replace(state, version=version, kept=said, deeds=done)
 
 
 def _table_put_in(state: State, name: str) -> requests.Table | requests.Supply:

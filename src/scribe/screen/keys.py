@@ -307,7 +307,7 @@ def _take_back(state: State) -> Step:
         if earlier and earlier[-1].back:
             said += f" u again takes back that {earlier[-1].what}."
         return Step(replace(state, deeds=tuple(earlier)).saying(said))
-    if len(deed.back) == 1:
+    if len(deed.back) == 1 or deed.is_edit:
         return Step(state, TakeBack())
     return Step(replace(state, question=Question(deed.question, yes=TakeBack())))
 

@@ -320,6 +320,13 @@ def changed_lines(change: Change, width: int) -> list[str]:
     ]
 
 
+def edit_in_part(done: int, refused: Refused) -> str:
+    """The sentence for an edit of which so many corrections are kept, and then one was refused."""
+    is_are = "is" if done == 1 else "are"
+    kept = f"{counted(done, 'correction')} of this edit {is_are} kept"
+    return f"{kept}, and the rest isn't. {refused.reason}"
+
+
 def wider(marked: MarkedWords) -> str:
     """The sentence for a mark whose cells stand for more than its words."""
     mark, place = marked.mark, marked.place

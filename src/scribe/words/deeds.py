@@ -31,6 +31,11 @@ class Deed:
     taken: int = 0
 
     @property
+    def is_edit(self) -> bool:
+        """Whether it is one edit of a paragraph, also where that took several corrections."""
+        return self.paragraph is not None and not self.taken
+
+    @property
     def question(self) -> str:
         """What is asked before it is taken back, if that takes more than one change."""
         if not self.taken:
@@ -205,11 +210,11 @@ def changed_between(
 
 
 def together(deeds: Sequence[Deed]) -> Deed:
-    """What one key did by several commands: a correction perhaps, and new paragraphs."""
+    """What one key did by several commands: corrections of a paragraph perhaps, and new ones."""
     backs = [command for each in reversed(deeds) for command in each.back]
     new = [each.paragraph for each in backs if isinstance(each, requests.Strike)][::-1]
     if not new:
-        return deeds[0]
+        return replace(deeds[0], back=tuple(backs))
     all_new = typed(new, "typed")
     others = [each.what for each in deeds if each.left != _STRUCK]
     return Deed(", and ".join([*others, all_new.what]), tuple(backs), all_new.left)
@@ -255,6 +260,16 @@ def kept(command: Command[Any], answer: Any) -> str:
         case requests.Table() | requests.Supply():
             return f"kept: table {command.table}"
     return f"kept: {_kept_of_paragraph(command)}"
+
+
+def kept_parts(parts: Sequence[Command[Any]], answers: Sequence[Any]) -> str:
+    """What those of a command's parts did that were answered: corrections, if it has more than one."""
+    if len(answers) == 1:
+        return kept(parts[0], answers[0])
+    first, last = answers[0].seq, answers[-1].seq
+    between = "and" if len(answers) == 2 else "to"
+    number = getattr(parts[0], "paragraph")
+    return f"kept: corrections {first} {between} {last} of paragraph {number}"
 
 
 def _kept_of_paragraph(command: Command[Any]) -> str:

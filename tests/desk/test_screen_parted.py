@@ -1,0 +1,138 @@
+"""An edit on the screen that changes a paragraph at two places, with a mark between them."""
+
+from pathlib import Path
+
+import pytest
+
+from braildesk import Entry, Kind, Session
+
+from sitting import Sat, Sit
+from stand_in import KEPT, KILL_PROGRAM, READ, REPLY
+from terminal import once_free, standing_in
+
+BEFORE, NOW = "The moon is far away.", "XThe moon is far away. Yes."
+
+
+def edited(sat: Sat) -> None:
+    """Changes the front and the end of a paragraph that has a mark between."""
+    sat.press("enter", "home", "X", "end")
+    sat.write(" Yes.")
+
+
+def marked(session: Session) -> tuple[str, bool]:
+    """The words of the mark, and whether these were touched."""
+    text, (mark,) = session.print_of(1), session.marks_of(1)
+    return text[mark.start : mark.stop], mark.touched
+
+
+@pytest.mark.parametrize("by", [None, "anna"])
+def test_a_mark_between_stays_on_its_words_and_u_takes_all_of_it_back(
+    moon: Path, sit: Sit, by: str | None
+) -> None:
+    sat = sit(moon, by)
+    edited(sat)
+    sat.press("enter")
+    assert sat.state.kept == "kept: corrections 2 and 3 of paragraph 1"
+    assert (sat.state.version, sat.state.typed) == (9, None)
+    assert sat.state.reading and sat.state.reading.text == NOW
+    assert sat.state.place == len(NOW) - 1
+    sat.press("u")
+    sat.state = sat.desk.away(sat.state, lambda _: None)
+    assert sat.state.heard == "Taken back: paragraph 1 was corrected."
+    assert sat.state.reading and sat.state.reading.text == BEFORE
+    assert sat.state.deeds == ()
+    sat.desk.close()
+    with once_free(moon) as session:
+        assert session.history_of(1)[1:3] == (
+            Entry(2, Kind.CORRECT, 21, 0, " Yes.", by, None),
+            Entry(3, Kind.CORRECT, 0, 0, "X", by, None),
+        )
+        assert session.print_of(1) == BEFORE
+        assert marked(session) == ("moon", False)
+
+
+def test_lines_that_are_pasted_into_it_leave_the_mark_on_its_words_too(
+    moon: Path, sit: Sit
+) -> None:
+    sat = sit(moon)
+    sat.press("enter", "home", "X", "end")
+    sat.state = sat.desk.paste(sat.state, " Yes.\nOh,\n")
+    while sat.state.question is not None:
+        sat.press("y")
+    sat.press("escape")
+    sat.desk.close()
+    with once_free(moon) as session:
+        assert session.print_of(1) == NOW
+        assert [p.id for p in session.paragraphs()] == [1, 4, 2, 3]
+        assert marked(session) == ("moon", False)
+
+
+def test_what_the_table_lacks_is_refused_before_any_of_it_is_kept(
+    moon: Path, sit: Sit
+) -> None:
+    sat = sit(moon)
+    sat.press("enter", "home", "ě", "end")
+    sat.write(" Yes.")
+    sat.press("enter")
+    assert sat.state.message.startswith("The table of paragraph 1 has no cells for “ě”")
+    assert sat.state.message.endswith("Nothing was changed.")
+    assert sat.state.version == 7 and sat.state.typed
+
+
+def test_the_rest_stays_typed_where_it_is_refused_and_what_is_kept_is_said(
+    moon: Path, sit: Sit, monkeypatch: pytest.MonkeyPatch
+) -> None:
+    with monkeypatch.context() as patched:
+        for name, value in standing_in(2, READ, REPLY, "no", "90").items():
+            patched.setenv(name, value)
+        sat = sit(moon)
+        edited(sat)
+        sat.press("enter")
+    assert sat.state.message.startswith(
+        "1 correction of this edit is kept, and the rest isn't."
+    )
+    assert "Nothing was changed" not in sat.state.message
+    assert sat.state.kept == "kept: correction 2 of paragraph 1"
+    assert sat.state.typed and sat.state.typed.text == NOW
+    assert sat.state.reading and sat.state.reading.text == f"{BEFORE} Yes."
+    sat.press("enter")
+    assert sat.state.kept == "kept: correction 3 of paragraph 1"
+    assert sat.state.reading and sat.state.reading.text == NOW
+    for _ in range(2):
+        sat.press("u")
+    assert sat.state.reading and sat.state.reading.text == BEFORE
+    assert marked(sat.desk._session) == ("moon", False)
+
+
+@pytest.mark.parametrize("far, print_now", [(READ, f"{BEFORE} Yes."), (KEPT, NOW)])
+def test_what_a_lost_session_kept_of_it_is_said_and_the_rest_waits(
+    moon: Path,
+    sit: Sit,
+    monkeypatch: pytest.MonkeyPatch,
+    far: str,
+    print_now: str,
+) -> None:
+    with monkeypatch.context() as patched:
+        for name, value in standing_in(2, far, KILL_PROGRAM).items():
+            patched.setenv(name, value)
+        sat = sit(moon)
+        edited(sat)
+        patched.undo()
+        sat.press("enter")
+    count = 1 if far == READ else 2
+    changes = "1 change" if far == READ else "2 changes"
+    assert (
+        f"The book was opened again: it is at version {7 + count}. What was being done was"
+        f" stopped after {changes}."
+    ) in sat.state.heard
+    assert sat.state.reading and sat.state.reading.text == print_now
+    if far == READ:
+        question = sat.state.question
+        assert question and "has been changed since" in question.sentence
+        sat.press("y", "enter")
+    assert sat.state.question is None and sat.state.typed is None
+    assert sat.state.reading and sat.state.reading.text == NOW
+    assert marked(sat.desk._session) == ("moon", False)
+    for _ in range(2):
+        sat.press("u")
+    assert sat.state.reading and sat.state.reading.text == BEFORE
