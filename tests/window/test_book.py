@@ -7,13 +7,13 @@ from typing import Any
 
 import pytest
 
-from braildesk import Displaced, Session, Style, new_book, requests
+from braildesk import Displaced, Refused, Session, Style, new_book, requests
 from braildesk.desk.draft import Aim, Draft
 from braildesk.desk.search import Spot
 from braildesk.protocol.requests import Command, Correct, Mark, Table, Type
 from braildesk.text.spans import Span
 
-from scribe.window.book import Done, NotAll, NothingToTakeBack, OpenBook
+from scribe.window.book import Done, NotAll, NothingToTakeBack, OpenBook, PartKept
 
 from conftest import prints
 
@@ -338,3 +338,76 @@ def test_what_was_kept_before_an_import_is_saved_from_the_session_after_it(
         book.close()
     with Session(moon.with_name("moon.braildesk-saved-1")) as session:
         assert session.paragraphs()[0].style is Style.HEADING
+
+
+def _edited(book: OpenBook) -> Done | None:
+    """Changes the front and the end of a paragraph that has a mark between."""
+    (its, *_) = book.contents().paragraphs
+    reading = book.reading(its)
+    return book.corrected(reading, f"X{reading.its.text} Yes.")
+
+
+def _mark(book: OpenBook) -> tuple[str, bool]:
+    """The words of the newest mark of paragraph 1, and whether these were touched."""
+    text, mark = book.session.print_of(1), book.session.marks_of(1)[-1]
+    return text[mark.start : mark.stop], mark.touched
+
+
+@pytest.fixture
+def marked(book: OpenBook) -> OpenBook:
+    """The book, with a mark on the second word."""
+    (its, *_) = book.contents().paragraphs
+    start = book.reading(its).its.text.index(" ") + 1
+    cells = book.cells_of(1, Span(start, start + 4))
+    book.done(Mark(1, cells.start, cells.stop - cells.start, "so?"))
+    return book
+
+
+def test_an_edit_leaves_a_mark_between_on_its_words_and_is_taken_back_as_one(
+    marked: OpenBook,
+) -> None:
+    before, mark = marked.session.print_of(1), _mark(marked)
+    seq = len(marked.session.history_of(1))
+    done = _edited(marked)
+    assert done is not None and done.paragraph == 1
+    assert done.said == f"kept: corrections {seq + 1} and {seq + 2} of paragraph 1"
+    assert done.contents.paragraphs[0].length == len(before) + 6
+    assert marked.session.print_of(1) == f"X{before} Yes."
+    assert _mark(marked) == mark and not mark[1]
+    assert marked.last_deed is not None and marked.last_deed.is_edit
+    done = marked.taken_back(lambda *_: None)
+    assert done.said == "Taken back: paragraph 1 was corrected."
+    assert marked.session.print_of(1) == before
+    assert _mark(marked) == mark
+
+
+def test_of_an_edit_the_rest_of_which_is_refused_it_is_said_what_is_kept(
+    marked: OpenBook, monkeypatch: pytest.MonkeyPatch
+) -> None:
+    before, ask = marked.session.print_of(1), marked.session.ask
+    refused = _refused_at(marked)
+    count = 0
+
+    def second_is_refused(request: Any) -> Any:
+        nonlocal count
+        count += isinstance(request, Correct)
+        if count == 2 and isinstance(request, Correct):
+            raise refused
+        return ask(request)
+
+    with monkeypatch.context() as patched:
+        patched.setattr(marked.session, "ask", second_is_refused)
+        with pytest.raises(PartKept) as part:
+            _edited(marked)
+    said = "1 correction of this edit is kept, and the rest isn't. "
+    assert part.value.sentence == said + refused.reason
+    assert marked.session.print_of(1) == f"{before} Yes."
+    marked.taken_back(lambda *_: None)
+    assert marked.session.print_of(1) == before
+
+
+def _refused_at(book: OpenBook) -> Refused:
+    """A refusal."""
+    with pytest.raises(Refused) as refused:
+        book.session.strike(99)
+    return refused.value

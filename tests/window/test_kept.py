@@ -519,3 +519,56 @@ def test_a_screen_that_is_not_there_is_said(moon: Path) -> None:
         "The screen that DISPLAY or WAYLAND_DISPLAY names can't be reached. Nothing was changed."
         " scribe edit shows a book in a terminal."
     )
+
+
+def _with_two_places(window: Reader) -> None:
+    """Changes the front and the end of the paragraph with the mark, and ends that."""
+    window.press("Down")
+    window.press("F2")
+    window.focus("text", "Print")
+    window.press("Home")
+    window.type("X")
+    window.press("End")
+    window.type(" Yes.")
+    window.reads("Print", "XThe mon is far away. Yes.")
+    window.press("Return")
+
+
+def _marked_words(book: Path) -> str:
+    """The words of the mark, which is untouched."""
+    with Session(book) as session:
+        (mark,) = session.marks_of(2)
+        assert not mark.touched
+        return session.print_of(2)[mark.start : mark.stop]
+
+
+def test_an_edit_at_two_places_leaves_a_mark_between_and_is_taken_back_as_one(
+    moon: Path, at: Open
+) -> None:
+    window = at(moon)
+    _with_two_places(window)
+    window.says("Kept: corrections 1 and 2 of paragraph 2.")
+    window.press("Ctrl+z")
+    window.says("Taken back: paragraph 2 was corrected.")
+    window.press("Ctrl+q")
+    assert window.end() == 0
+    assert prints(moon)[1] == "The mon is far away."
+    assert _marked_words(moon) == "mon"
+
+
+def test_an_edit_of_which_a_part_is_refused_is_brought_back_and_kept_whole(
+    moon: Path, at: Open
+) -> None:
+    window = at(
+        moon,
+        BRAILDESK=str(STAND_IN),
+        STAND_IN_FOR=os.environ["BRAILDESK"],
+        STAND_IN_AT="2 read reply no 90",
+    )
+    _with_two_places(window)
+    window.says("1 correction of this edit is kept, and the rest isn't.")
+    window.says("Ctrl+B brings it back.")
+    window.press("Ctrl+q")
+    assert window.end() == 0
+    assert prints(moon)[1] == "The mon is far away. Yes."
+    assert _marked_words(moon) == "mon"

@@ -10,10 +10,11 @@ from typing import Any
 
 from braildesk import Displaced, Lost, Paragraph, Refused, Session, requests
 from braildesk.desk import search
+from braildesk.desk.around_marks import corrections, prints_between
 from braildesk.desk.change import Change, change_place
 from braildesk.desk.change_all import NotChanged, Passed, Proposal, Replacement
 from braildesk.desk.changed_so_far import Further
-from braildesk.desk.correction import smallest_correction, with_typed
+from braildesk.desk.correction import with_typed
 from braildesk.desk.draft import Aim, Draft
 from braildesk.desk.find import alike
 from braildesk.desk.highlighting import (
@@ -36,7 +37,8 @@ from braildesk.text.spans import Span
 from scribe.words import deeds, pagelook
 from scribe.words.aftermath import deed_found, kept_alone, opened_again
 from scribe.words.change_all import REST_STAYS, Count
-from scribe.words.deeds import Deed, kept
+from scribe.words.changes import edit_in_part
+from scribe.words.deeds import Deed, kept, kept_parts
 from scribe.words.drafts import as_paragraphs, not_kept
 from scribe.words.paragraph import counted, part_of, quoted
 from scribe.words.preview import Tables
@@ -98,6 +100,20 @@ class NotAll(Exception):
         super().__init__(done, cause)
         self.done = done
         self.cause = cause
+
+
+class PartKept(Exception):
+    """Some corrections of an edit are kept, and then one was refused."""
+
+    def __init__(self, done: int, cause: Refused) -> None:
+        super().__init__(done, cause)
+        self.done = done
+        self.cause = cause
+
+    @property
+    def sentence(self) -> str:
+        """What a person reads."""
+        return edit_in_part(self.done, self.cause)
 
 
 class _StoppedHere(Exception):
@@ -291,16 +307,43 @@ class OpenBook:
         return cells_of(self._session, paragraph, words)
 
     def corrected(self, reading: ChosenParagraph, text: str) -> Done | None:
-        """Makes a print what was typed, by the smallest correction; nothing where it is that."""
-        old = reading.its.text
-        least = smallest_correction(old, with_typed(old, text))
-        if least is None:
+        """Makes a print what was typed, by the smallest corrections; nothing where it is that.
+
+        It is one, or more where marks between stay on their words; raises `PartKept` where one of
+        these isn't kept.
+        """
+        parts, answers = self._corrections(reading.its, text), list[Any]()
+        before = self._deeds
+        for part in parts:
+            try:
+                answers.append(self._sent(part))
+            except Refused as refused:
+                if not answers:
+                    raise
+                raise PartKept(len(answers), refused) from refused
+        if not answers:
             return None
-        number = reading.its.paragraph.id
-        words = (number, least.start, least.count, least.text)
+        if len(answers) > 1:
+            self._deeds = (*before, deeds.together(self._deeds[len(before) :]))
+        done = self._after(parts[-1], answers[-1])
+        return replace(done, said=kept_parts(parts, answers))
+
+    def _corrections(
+        self, its: ParagraphReading, text: str
+    ) -> Sequence[requests.Correct]:
+        """The requests that make a print what was typed, in the order in which they are sent."""
+        old, now = its.text, with_typed(its.text, text)
+        found = corrections(old, now, its.marks)
+        prints = [*prints_between(old, found), now]
+        if len(found) > 1 and self.tables.first_fault(its.paragraph.table, prints):
+            # it is refused, or kept, as a whole
+            found = corrections(old, now, ())
+        its_words = [
+            (its.paragraph.id, each.start, each.count, each.text) for each in found
+        ]
         if self._by is None:
-            return self.done(requests.Correct(*words))
-        return self.done(requests.CorrectBy(*words, who=self._by))
+            return [requests.Correct(*words) for words in its_words]
+        return [requests.CorrectBy(*words, who=self._by) for words in its_words]
 
     def done(self, command: Command[Any]) -> Done:
         """Carries out a command, and notes how it is taken back."""

@@ -45,6 +45,7 @@ from scribe.window.book import (
     OpenBook,
     Opening,
     ChosenParagraph,
+    PartKept,
     is_gone,
 )
 from scribe.window.dialogs import IsStopped, Say, ask, offer
@@ -344,6 +345,10 @@ class Desk:
             self.after_loss(lost)
         except DeskError as refused:
             self.refuse(refused.sentence)
+        except PartKept as part:
+            with self.failures():
+                more = self.taken_again(self.asked(self.book.contents))
+                self.refuse(f"{part.sentence} {more}".rstrip())
         except NotAll as part:
             cause = part.cause
             why = cause.reason if isinstance(cause, Refused) else "Stopped."

@@ -114,7 +114,7 @@ class Typed:
     def _is_taken_back(self) -> bool:
         """Whether what was done last is taken back: of much it is asked first."""
         desk, deed = self.desk, self.desk.book.last_deed
-        if deed is None or len(deed.back) < 2:
+        if deed is None or len(deed.back) < 2 or deed.is_edit:
             return True
         asked = f"The last action did this: {deed.what}. Shall all of it be taken back?"
         if deed.taken:
