@@ -146,6 +146,9 @@ class Lost(Failed):
     the book, in their order. ``cause`` is the front of the sentence, which says what happened.
     """
 
+    #: The command that was asked last, if it was never sent, and so is not in the book.
+    unsent: "Request[Any] | None" = None
+
     def __init__(
         self,
         cause: str,

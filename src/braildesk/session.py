@@ -473,7 +473,10 @@ class Session(Asking):
             if self._is_foreign:
                 raise self._overwritten()
             if not self._file.has_its_log and self._file.is_at_its_path:
-                raise self._without_log()
+                lost = self._without_log()
+                if isinstance(request, Command):
+                    lost.unsent = request
+                raise lost
 
     def _note(self, request: Request[Any], reply: Reply) -> None:
         """Notes the reply to a request; a command that isn't kept stays among those sent."""

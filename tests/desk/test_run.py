@@ -328,3 +328,27 @@ def test_a_session_that_is_lost_says_what_was_kept(moon: Path) -> None:
 def test_ten_thousand_requests_take_seconds(moon: Path) -> None:
     ran = scribe("run", moon, folder=moon.parent, given="version\n" * 10_000)
     assert ran.shown == "end 7\n" * 10_000
+
+
+def test_a_request_that_was_not_begun_is_not_taken_for_what_was_changed_last(
+    moon: Path,
+) -> None:
+    ran = subprocess.Popen(
+        [sys.executable, "-m", "scribe", "run", moon],
+        stdin=subprocess.PIPE,
+        stdout=subprocess.PIPE,
+        stderr=subprocess.PIPE,
+        env=environment(COLUMNS="400"),
+        text=True,
+    )
+    assert ran.stdin is not None and ran.stdout is not None
+    ran.stdin.write("strike 1\n")
+    ran.stdin.flush()
+    assert ran.stdout.readline() == "ok 8\n"
+    Path(f"{moon}-wal").unlink()
+    shown, said = ran.communicate("strike 2\n")
+    assert (ran.returncode, shown) == (3, "")
+    assert said.endswith(
+        "The book was opened again: it is at version 8, as before, and what was asked last is not in"
+        " it.\n"
+    )

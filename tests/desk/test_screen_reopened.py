@@ -495,7 +495,7 @@ def test_who_types_goes_on_where_the_log_of_the_book_was_removed(
     assert sat.state.message == (
         f"The log of the book, “{log}”, was removed or replaced while it was open. So the session was"
         " ended, by which what was in the log came into the book's file. The book was opened again:"
-        f" it is at version 8, as before. {STAYS}"
+        f" it is at version 8, as before, and what was asked last is not in it. {STAYS}"
     )
     sat.press("enter")
     assert sat.state.kept == "kept: paragraph 4"

@@ -22,7 +22,7 @@ class FoundAgain:
     #: Its version, and the one that it was last reported at.
     version: int
     before: int
-    #: How many commands were not answered.
+    #: How many commands were not answered, with one that was not sent.
     unanswered: int
     #: How many of these are in the book, the first ones; None if another program changed it.
     kept: int | None
@@ -52,8 +52,9 @@ def found_again(session: Session, lost: Lost) -> FoundAgain:
         0 < now - before <= len(asked) and is_in(session, asked[now - before - 1])
     ):
         kept = None
-    is_answered = not asked and lost.acknowledged is not None
-    return FoundAgain(now, before, len(asked), kept, is_answered)
+    count = len(asked) + (lost.unsent is not None)
+    is_answered = not count and lost.acknowledged is not None
+    return FoundAgain(now, before, count, kept, is_answered)
 
 
 def is_in(session: Session, command: Request[Any]) -> bool:
