@@ -2104,8 +2104,14 @@ def test_a_program_that_takes_too_long_is_given_up(
     # as LibreOffice, which takes the signal
     ended = given_up("echo Fatal exception: Signal 24 >&2; exit 152")
     assert ended.startswith("takes pandoc more time than any")
-    for end in ("kill -KILL $$", "echo pandoc: out of memory >&2; exit 251"):
-        assert given_up(end).startswith("takes pandoc more memory than any book")
+    ended = given_up("echo pandoc: out of memory >&2; exit 251")
+    assert ended.startswith("takes pandoc more memory than any book")
+    assert given_up("kill -KILL $$").startswith(
+        "can't be read by pandoc: it was ended by signal 9, as by a system that has run out of memory."
+    )
+    assert given_up("kill -TERM $$") == (
+        "can't be read by pandoc: it was ended by signal 15"
+    )
     assert "nested" in given_up("echo pandoc: stack overflow >&2; exit 2")
     assert given_up("echo none") == "can't be read by pandoc, which doesn't say why"
 

@@ -719,3 +719,25 @@ def test_a_limit_on_the_size_of_files_that_a_document_needs_more_than_is_named(
         "long.md can't be read by pandoc: the limit on the size of files (ulimit -f) is too low. Set a"
         " higher one, and try again. Nothing was typed.\n",
     )
+
+
+def test_a_limit_on_processor_time_that_a_document_needs_more_than_is_named(
+    moon: Path, tmp_path: Path
+) -> None:
+    moon.with_name("long.md").write_text("The moon is far.\n")
+    busy = tmp_path / "busy"
+    busy.mkdir()
+    busy.joinpath("pandoc").write_text("#!/bin/sh\nwhile :; do :; done\n")
+    busy.joinpath("pandoc").chmod(0o755)
+    ran = scribe(
+        *("import", moon.name, "long.md", "--format", "markdown"),
+        folder=moon.parent,
+        before=lambda: resource.setrlimit(resource.RLIMIT_CPU, (2, 2)),
+        PATH=f"{busy}:{os.environ['PATH']}",
+    )
+    assert ran == Ran(
+        2,
+        "",
+        "long.md can't be read by pandoc: the limit on processor time (ulimit -t) is too low. Set a"
+        " higher one, and try again. Nothing was typed.\n",
+    )

@@ -79,12 +79,23 @@ _LEFT_OUT = re.compile(
 _SESSION, _TIMES = 3, slice(11, 15)
 #: The status by which programs made by GHC, as pandoc is, end where they get no more memory.
 _NO_MEMORY = 251
+#: How far the time that the system counts for a limit may be from that which it reports, in seconds.
+_TICK = 0.1
 #: What LibreOffice says where it gets no more time of a processor: it ends otherwise than others by that.
 _NO_TIME = b"Fatal exception: Signal %d" % signal.SIGXCPU
 #: What they say where something is nested too deeply for them.
 _STACK = b"stack overflow"
-#: What is said where the limit on the size of files is lower than what they write.
-_LIMITED = f"{ENDED_BY[signal.SIGXFSZ]} is too low. Set a higher one, and try again"
+#: What is said where the limit on the size of files is lower than what they write, or that on processor time
+#: than what they take.
+_LIMITED, _TIME_LIMITED = (
+    f"{ENDED_BY[each]} is too low. Set a higher one, and try again"
+    for each in (signal.SIGXFSZ, signal.SIGXCPU)
+)
+#: What is said where one was killed, by whomever: a system that runs out of memory ends what takes most of it.
+_KILLED = (
+    "it was ended by signal 9, as by a system that has run out of memory. Close other programs, or take"
+    " the document apart, and try again"
+)
 #: How much of what a program says beside its answer is read.
 _SAID_BYTES = 1 << 20
 
@@ -199,6 +210,7 @@ def _run(
     ``UnreadableText`` if it fails, or is too slow or too large.
     """
     limits = Limits(memory=_MEMORY, seconds=seconds, written=_TREE_BYTES)
+    before = _spent_by_ended()
     try:
         with tempfile.TemporaryFile() as output, tempfile.TemporaryFile() as errors:
             with subprocess.Popen(
@@ -211,6 +223,9 @@ def _run(
                 _wait(name, process)
             output.seek(0)
             errors.seek(0)
+            if process.returncode == -signal.SIGKILL:
+                spent = _spent_by_ended() - before
+                raise NotConverted(name, _TIME_LIMITED if _is_over(spent) else _KILLED)
             if process.returncode:
                 raise _failure(name, process.returncode, errors.read(2000))
             return output.read(), errors.read(_SAID_BYTES)
@@ -246,12 +261,23 @@ def _spent(session: int) -> float:
     return ticks / os.sysconf("SC_CLK_TCK")
 
 
+def _spent_by_ended() -> float:
+    """How many seconds of a processor the programs have had that this process waited for."""
+    found = resource.getrusage(resource.RUSAGE_CHILDREN)
+    return found.ru_utime + found.ru_stime
+
+
+def _is_over(spent: float) -> bool:
+    """Whether so many seconds of a processor are all that the limit of this process gives to one."""
+    _, most = resource.getrlimit(resource.RLIMIT_CPU)
+    return most != resource.RLIM_INFINITY and spent > most - _TICK
+
+
 def _failure(name: str, status: int, errors: bytes) -> UnreadableText:
     """Why a program failed: by a limit, or by what it said, in one line."""
     if status == -signal.SIGXCPU or _NO_TIME in errors:
         return BrokenOff(name, Spent.TIME)
-    # a system that runs out of memory ends what takes most of it
-    if status in (-signal.SIGKILL, _NO_MEMORY):
+    if status == _NO_MEMORY:
         return BrokenOff(name, Spent.MEMORY)
     if _STACK in errors:
         return NoDocument(WhyNot.TOO_DEEP)
@@ -260,4 +286,7 @@ def _failure(name: str, status: int, errors: bytes) -> UnreadableText:
         _, most = resource.getrlimit(resource.RLIMIT_FSIZE)
         is_own = most == resource.RLIM_INFINITY or most >= _TREE_BYTES
         return NoDocument(WhyNot.TOO_LARGE) if is_own else NotConverted(name, _LIMITED)
-    return NotConverted(name, " ".join(errors.decode(errors="replace").split()))
+    said = " ".join(errors.decode(errors="replace").split())
+    if status < 0 and not said:
+        said = f"it was ended by signal {-status}"
+    return NotConverted(name, said)
