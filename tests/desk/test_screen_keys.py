@@ -991,7 +991,7 @@ def test_a_lost_session_is_left_or_opened_again_and_nothing_else() -> None:
         wanted = {"q": Quit(), "enter": OpenAgain()}
         assert asked == wanted.get(key)
     # a screen of few lines has no line of keys
-    for key in ("?", "f1", "s"):
+    for key in ("?", "f1", "s", "escape"):
         said = "Enter opens the book again, and q ends. That key does nothing here."
         assert step(lost, key).state == lost.saying(said)
 

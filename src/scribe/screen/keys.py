@@ -116,10 +116,13 @@ def _with_way_back(before: State, found: Step) -> Step:
 
 def _step(state: State, key: str) -> Step:
     """The same, where nothing is said any more."""
-    if state.is_lost and key in ("q", "escape"):
+    if state.is_lost and key == "q":
         return Step(state, Quit())
     if state.is_lost and key == "enter":
         return Step(state, OpenAgain())
+    if state.is_lost and key == "escape":
+        # whoever leaves something by it would type the next keys to a shell
+        return Step(state.saying(_OF_LOST))
     if state.question and not state.is_lost:
         # from here on it is read anew
         question = replace(state.question, row=None)
