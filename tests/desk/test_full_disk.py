@@ -274,3 +274,26 @@ def test_a_place_of_the_system_is_not_said_to_have_no_room() -> None:
         with pytest.raises(DeskError) as caught:
             braildesk.new_book(place)
         assert "no room" not in caught.value.sentence
+
+
+@pytest.mark.parametrize("count", [100, 2000], ids=["its answer", "the document"])
+def test_an_import_names_the_folder_for_temporary_files_that_has_no_room(
+    count: int, sample: Path, tmp_path: Path
+) -> None:
+    if not may_mount(tmp_path):
+        pytest.skip("only root can mount a disk, and not in each container")
+    text = sample / "long.md"
+    text.write_text("The moon is far from the sea.\n\n" * count)
+    mounted = MOUNTED.replace("2m", "8k")
+    done = subprocess.run(
+        ["unshare", "-m", "sh", "-c", mounted, "sh", str(tmp_path), sys.executable]
+        + ["-m", "scribe", "import", "moon.braildesk", "long.md", "--format"]
+        + ["markdown"],
+        cwd=sample,
+        env=environment(TMPDIR=str(tmp_path), COLUMNS="400"),
+        capture_output=True,
+    )
+    assert done.stderr.decode() == (
+        f"long.md can't be read by pandoc: its temporary files are in “{tmp_path}”, and there is no room"
+        " on the disk. Let TMPDIR name a folder with room. Nothing was typed.\n"
+    )

@@ -41,7 +41,7 @@ from braildesk.desk.documents.rtf_groups import (
     without_parting,
 )
 from braildesk.desk.manuscript import UnreadableText
-from braildesk.protocol.sentences import ENDED_BY
+from braildesk.protocol.sentences import ENDED_BY, of_failure
 
 #: How many seconds a program is waited for that has less than a hundredth of them of a processor: it waits for
 #: something that never comes, since one that works has more, even where two dozen others want it too.
@@ -91,6 +91,8 @@ _LIMITED, _TIME_LIMITED = (
     f"{ENDED_BY[each]} is too low. Set a higher one, and try again"
     for each in (signal.SIGXFSZ, signal.SIGXCPU)
 )
+#: What the system says where a disk has no room, or none for this user.
+_FULL = (errno.ENOSPC, errno.EDQUOT)
 #: What is said where one was killed, by whomever: a system that runs out of memory ends what takes most of it.
 _KILLED = (
     "it was ended by signal 9, as by a system that has run out of memory. Close other programs, or take"
@@ -102,13 +104,19 @@ _SAID_BYTES = 1 << 20
 
 @contextmanager
 def _limit_named(name: str) -> Iterator[None]:
-    """Where a limit on the size of files keeps one from being written for a program, names that limit."""
+    """Where a file can't be written for a program, names the limit on the size of files, or the full disk."""
     try:
         yield
     except OSError as fault:
-        if fault.errno != errno.EFBIG:
+        if fault.errno == errno.EFBIG:
+            raise NotConverted(name, _LIMITED) from fault
+        if fault.errno not in _FULL:
             raise
-        raise NotConverted(name, _LIMITED) from fault
+        said = (
+            f"its temporary files are in “{tempfile.gettempdir()}”, and {of_failure(fault)}. Let TMPDIR"
+            " name a folder with room"
+        )
+        raise NotConverted(name, said) from fault
 
 
 @_limit_named("pandoc")
@@ -227,9 +235,15 @@ def _run(
                 spent = _spent_by_ended() - before
                 raise NotConverted(name, _TIME_LIMITED if _is_over(spent) else _KILLED)
             if process.returncode:
-                raise _failure(name, process.returncode, errors.read(2000))
+                said = errors.read(2000)
+                if not said and not os.fstatvfs(errors.fileno()).f_bavail:
+                    # not even that could be written
+                    raise OSError(errno.ENOSPC, os.strerror(errno.ENOSPC))
+                raise _failure(name, process.returncode, said)
             return output.read(), errors.read(_SAID_BYTES)
     except OSError as fault:
+        if fault.errno in _FULL:
+            raise
         raise NotConverted(name, fault.strerror or str(fault)) from fault
 
 
