@@ -421,6 +421,23 @@ def test_who_may_only_read_a_book_may_look_at_it_and_export_it(
     assert "A moon is far away." in found[0].shown
 
 
+def test_who_may_only_read_a_book_exports_it_once_nobody_has_it_open(
+    locked: Path, installed: Path
+) -> None:
+    locked.chmod(0o755)
+    book = locked / "moon.braildesk"
+    book.chmod(0o644)
+    installed.chmod(0o777)
+    asked = ["show", str(book)], ["export", str(book), str(installed / "once")]
+    with Session(book):
+        found = ran_by_another(installed, [*asked])
+    said = [f"Another program has {book} open.", f"Another program has “{book}” open."]
+    assert [each.status for each in found] == [0, 2]
+    for each, sentence in zip(found, said):
+        assert " ".join(each.said.split()).startswith(sentence)
+    assert [each.status for each in ran_by_another(installed, [*asked])] == [0, 0]
+
+
 @pytest.mark.parametrize("words", [["show"], ["export", "pages"], ["proof", "p.html"]])
 def test_who_looks_at_a_book_that_may_not_be_read_needs_no_leave_to_write(
     locked: Path, installed: Path, words: list[str]
