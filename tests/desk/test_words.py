@@ -495,3 +495,13 @@ def test_ctrl_c_while_scribe_starts_ends_it_without_a_word(installed: Path) -> N
 def test_the_manual_page_has_each_command(name: str) -> None:
     page = (ROOT / "docs" / "scribe.1").read_text()
     assert f'"scribe {name} ' in page or f"\\fBscribe {name} " in page
+
+
+@pytest.mark.parametrize("name", ["change-all", "show", "list"])
+def test_help_and_the_manual_page_say_in_which_order_a_range_of_paragraphs_is(
+    name: str, tmp_path: Path
+) -> None:
+    shown = " ".join(scribe(name, "--help", folder=tmp_path).shown.split())
+    assert "from one to the other as they stand in the book" in shown
+    page = (ROOT / "docs" / "scribe.1").read_text().replace("\n", " ")
+    assert page.count("from the first to the last as they stand in the book") == 2

@@ -275,7 +275,9 @@ def add_paragraph(
 
 
 def add_ranges(
-    parser: "argparse._ActionsContainer", word: str, does: str = "only these paragraphs"
+    parser: "argparse._ActionsContainer",
+    word: str,
+    does: str = "only these paragraphs, from one to the other as they stand in the book",
 ) -> None:
     """Adds a word for ranges of paragraphs, such as 3-9, as `arguments.paragraphs`."""
     # imported here, since few commands take them
@@ -299,7 +301,7 @@ def add_paragraphs(parser: argparse.ArgumentParser) -> None:
         metavar="PARAS",
         type=argument(typed.paragraph_ranges),
         nargs="?",
-        help="only these paragraphs, as in 3-9",
+        help="only these paragraphs, as in 3-9: from one to the other as they stand in the book",
     )
     add_ranges(ways, "--paragraphs", "the same")
 
