@@ -421,3 +421,21 @@ def test_the_cursor_stays_where_it_is_while_what_is_typed_becomes_composed(
     sat.press("enter", "e", "\u0301", "e", "\u0301", " ", "enter")
     assert sat.state.reading and sat.state.reading.text == "éé the sea"
     assert sat.state.place == 3
+
+
+@pytest.mark.parametrize("lines", [1, 2, 3])
+def test_where_a_mark_has_no_row_it_is_said_on_which_words_it_is_and_that_it_is_touched(
+    moon: Path, sit: Sit, lines: int
+) -> None:
+    sat = sit(moon, size=Size(80, lines))
+    sat.press("down", "down", "tab", "m")
+    asked = sat.lines
+    sat.write("so?")
+    sat.press("enter")
+    seen = [*asked, *sat.lines]
+    assert any("On “T”." in line or "on “T”" in line for line in seen)
+    assert (sat.state.message == "Kept: mark 2. It is on “T”.") is (lines == 1)
+    sat.press("enter", "delete", "X", "enter")
+    is_said = sat.lines[-1].endswith("This touched mark 2.")
+    assert is_said is (lines < 3)
+    assert ("Mark 2, open, touched, on “X”: so?" in sat.lines) is (lines == 3)

@@ -12,12 +12,15 @@ from braildesk.text.spans import Span
 
 from scribe.screen.field import Purpose
 from scribe.screen.state import InHand, State, prompted
+from scribe.words.paragraph import marked_words as where
 from scribe.words.paragraph import quoted
 
 _FIRST = "No open mark up to the end of the book: this is the first in it."
 _LAST = "No open mark up to the front of the book: this is the last in it."
 # said before it is put, since the book keeps it
 _OF_MARK = "r resolves a mark, and nothing takes it out."
+#: Of how many lines a screen is on which a mark has a row, and on which its words are seen beside its note.
+_WITH_ROW, _WITH_NOTE = 3, 2
 
 
 def at_mark(state: State, found: Found, is_back: bool) -> State:
@@ -39,13 +42,13 @@ def with_mark_in_hand(state: State, before: State) -> State:
 
     That is the open mark on which an edit began, so that r resolves it wherever in its paragraph
     the edit ended; or else one that the command put, or one that it touched elsewhere. Where any
-    that were touched are elsewhere, all are said.
+    that were touched are elsewhere, or none has a row, all are said.
     """
     if state.reading is None or before.reading is None:
         return state
     if state.reading.paragraph.id != before.reading.paragraph.id:
         return state
-    old = {mark.id: mark.touched for mark in before.reading.marks}
+    old, text = {m.id: m.touched for m in before.reading.marks}, state.reading.text
     fresh = [m for m in state.reading.marks if m.touched and old.get(m.id) is False]
     put = [mark for mark in state.reading.marks if mark.id not in old]
     begun = None
@@ -59,7 +62,13 @@ def with_mark_in_hand(state: State, before: State) -> State:
         state = holding(state, fresh[0].id)
     # of those of which the screen shows one, it may show only a line
     is_elsewhere = any(mark not in state.marks_here for mark in fresh)
-    return state.saying(touched(fresh)) if is_elsewhere else state
+    if is_elsewhere:
+        state = state.saying(touched(fresh))
+    elif fresh and state.size.lines < _WITH_ROW:
+        state = state.saying_too(touched(fresh))
+    if put and state.size.lines < _WITH_NOTE:
+        state = state.saying_too(f"It is {where(put[-1], text)}.")
+    return state
 
 
 def left_here(state: State) -> State:
