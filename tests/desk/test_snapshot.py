@@ -193,6 +193,29 @@ def test_a_book_is_copied_while_it_is_open(moon: Path) -> None:
     assert not (moon.parent / "other-wal").exists() or check(copied) == version
 
 
+def test_of_an_open_book_whose_log_was_removed_it_is_said_that_the_newest_may_be_missing(
+    moon: Path,
+) -> None:
+    before = check(moon)
+    missing = (
+        "No log is beside the book, so what that program kept last may be missing."
+    )
+    with Session(moon) as session:
+        session.strike(2)
+        Path(f"{moon}-wal").unlink()
+        shown = scribe("show", moon.name, folder=moon.parent, COLUMNS="400")
+        copied = scribe("copy", moon.name, "other", folder=moon.parent, COLUMNS="400")
+    assert shown.said == (
+        f"Another program has {moon.name} open. {missing} This is what the file has, at version"
+        f" {before}.\n"
+    )
+    assert (copied.status, copied.said) == (
+        0,
+        f"Another program has {moon.name} open, and goes on with it. {missing}\n",
+    )
+    assert check(moon) == before + 1
+
+
 def test_what_is_made_of_a_book_that_is_open_is_for_those_on_its_list_of_access(
     moon: Path,
 ) -> None:

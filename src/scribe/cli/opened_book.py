@@ -1,5 +1,6 @@
 """The book of a command: its session, and what is said where it can't be opened or the work is stopped."""
 
+import os
 from argparse import Namespace
 from collections.abc import Callable, Iterator
 from contextlib import contextmanager, nullcontext, suppress
@@ -18,6 +19,7 @@ from braildesk import (
 from braildesk.beginning import Beginning
 from braildesk.desk import USUAL_WAIT
 from braildesk.desk.places import ManyPlaces
+from braildesk.protocol.asked import log_path
 from braildesk.protocol.sentences import LOOKED_AT_BY_COPY
 from braildesk.session import session_of
 from braildesk.text.excerpt import excerpt_lines
@@ -153,10 +155,25 @@ def looked_at(
 
 def as_kept(book: Path, version: int) -> str:
     """What is said of a book that is looked at while another program has it open."""
+    if missing := without_log(book):
+        return (
+            f"Another program has {book} open. {missing} This is what the file has, at version"
+            f" {version:,}."
+        )
     return (
         f"Another program has {book} open. This is what it had kept a moment ago, at version"
         f" {version:,}."
     )
+
+
+def without_log(book: Path) -> str:
+    """What is said where no log is beside a book that a program has open; nothing where one is.
+
+    Each session makes one at once, and keeps there what is typed.
+    """
+    if os.path.lexists(log_path(os.fspath(book))):
+        return ""
+    return "No log is beside the book, so what that program kept last may be missing."
 
 
 @contextmanager

@@ -10,6 +10,7 @@ from braildesk.named_files import is_same_file
 from braildesk.protocol.asked import BookFile
 from braildesk.snapshot import snapshot
 
+from scribe.cli.opened_book import without_log
 from scribe.cli.parser import Subparsers, add_file, command_parser, file_path
 from scribe.words.console import Console, OutputFailed
 from scribe.words.status import Status, Stop
@@ -55,7 +56,8 @@ def run(arguments: Namespace, console: Console) -> Status:
         failed.add_note(said)
         raise
     if is_open:
-        console.say(f"Another program has {arguments.file} open, and goes on with it.")
+        goes_on = f"Another program has {arguments.file} open, and goes on with it."
+        console.say(f"{goes_on} {without_log(arguments.file)}".rstrip())
     return Status.DONE
 
 
