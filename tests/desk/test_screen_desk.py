@@ -529,22 +529,55 @@ def while_read(patch: pytest.MonkeyPatch, deed: Callable[[], object]) -> None:
     patch.setattr("braildesk.desk.import_text.taken", then_taken)
 
 
+def tried(book: Path, other: Path) -> list[Why]:
+    """Why others can't have a book, nor put a copy of another one in its place."""
+    whys: list[Why] = []
+    try:
+        Session(book).close()
+    except CannotOpen as refused:
+        whys.append(refused.why)
+    try:
+        braildesk.copy(other, book, overwrite=True)
+    except CannotOpen as refused:
+        whys.append(refused.why)
+    return whys
+
+
+def test_nobody_else_has_the_book_while_it_is_exported(
+    moon: Path, other: Path, sit: Sit
+) -> None:
+    whys: list[Why] = []
+    sat = sit(moon)
+    sat.press("O", *"Soon.", "enter", "escape", "x", *str(moon.parent), "enter")
+    sat.state = sat.desk.away(sat.state, lambda _: whys.extend(tried(moon, other)))
+    assert whys == [Why.IN_USE, Why.IN_USE]
+    file = moon.parent / "moon-1.brf"
+    assert b",SOON4" in file.read_bytes()
+    assert sat.state.pages and sat.state.pages.lines[0].startswith(f"{file}: volume 1,")
+    sat.press("escape", "u")
+    assert sat.state.message == (
+        "Taken back: paragraph 4 was typed. The book keeps it, struck."
+    )
+
+
+def test_nothing_is_exported_of_another_book_that_was_put_in_the_place_of_the_open_one(
+    moon: Path, other: Path, sit: Sit
+) -> None:
+    sat = sit(moon)
+    sat.press("s", "x", *str(moon.parent), "enter")
+    os.replace(other, moon)
+    sat.state = sat.desk.away(sat.state, lambda _: None)
+    assert sat.state.is_lost and not moon.with_name("moon-1.brf").exists()
+    with Session(f"{moon}-saved-1") as session:
+        assert session.paragraphs()[0].struck
+
+
 def test_nobody_else_has_the_book_while_a_document_is_read(
     moon: Path, other: Path, sit: Sit, monkeypatch: pytest.MonkeyPatch
 ) -> None:
     whys: list[Why] = []
 
-    def had() -> None:
-        try:
-            Session(moon).close()
-        except CannotOpen as refused:
-            whys.append(refused.why)
-        try:
-            braildesk.copy(other, moon, overwrite=True)
-        except CannotOpen as refused:
-            whys.append(refused.why)
-
-    while_read(monkeypatch, had)
+    while_read(monkeypatch, lambda: whys.extend(tried(moon, other)))
     text = moon.with_name("text.md")
     text.write_text("The *sun*\n")
     sat = sit(moon)

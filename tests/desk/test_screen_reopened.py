@@ -639,7 +639,11 @@ def test_what_was_kept_before_a_session_ended_is_saved_from_the_next_one(
         assert session.print_of(4) == "Soon."
 
 
-def test_a_change_by_another_program_meanwhile_is_said(moon: Path, sit: Sit) -> None:
+def test_a_change_by_another_program_meanwhile_is_said(
+    moon: Path, sit: Sit, monkeypatch: pytest.MonkeyPatch
+) -> None:
+    # where no copy can be made, others may have the book during an export
+    monkeypatch.setattr("tempfile.tempdir", str(moon.parent / "nowhere"))
     sat = sit(moon)
 
     def corrected(line: str) -> None:

@@ -292,11 +292,15 @@ def test_a_table_that_was_put_into_the_book_stays_there_which_is_said_before(
     assert sat.state.message == "Taken back: paragraph 1 was restored."
 
 
-def test_what_others_changed_meanwhile_is_not_taken_back(moon: Path, sit: Sit) -> None:
+def test_what_others_changed_meanwhile_is_not_taken_back(
+    moon: Path, sit: Sit, monkeypatch: pytest.MonkeyPatch
+) -> None:
     def changed(line: str) -> None:
         with Session(moon) as session:
             session.set_style(2, "heading")
 
+    # where no copy can be made, others may have the book during an export
+    monkeypatch.setattr("tempfile.tempdir", str(moon.parent / "nowhere"))
     sat = sit(moon)
     sat.press("down", "s", "x", *str(moon.parent / "pages"), "enter")
     sat.state = sat.desk.away(sat.state, changed)
@@ -308,7 +312,7 @@ def test_what_others_changed_meanwhile_is_not_taken_back(moon: Path, sit: Sit) -
 
 @pytest.mark.parametrize("keys", ["x", "i"])
 def test_what_others_typed_meanwhile_is_no_import_of_this_one(
-    moon: Path, sit: Sit, keys: str
+    moon: Path, sit: Sit, monkeypatch: pytest.MonkeyPatch, keys: str
 ) -> None:
     def typed(line: str) -> None:
         if not others:
@@ -316,6 +320,8 @@ def test_what_others_typed_meanwhile_is_no_import_of_this_one(
                 others.append(session.add_paragraph("end", "en", "The stars").id)
 
     others: list[int] = []
+    # where no copy can be made, others may have the book during an export
+    monkeypatch.setattr("tempfile.tempdir", str(moon.parent / "nowhere"))
     sat = sit(moon)
     # neither an export nor a text that isn't there puts anything into the book
     sat.press("s", keys, *str(moon.parent / "not there" / "it"), "enter")

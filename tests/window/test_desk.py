@@ -31,6 +31,7 @@ from scribe.window.held import Held
 from scribe.window.worker import Worker
 from scribe.words.console import Console
 from scribe.words.drafts import typed_at_offer
+from scribe.words.export import export_in_words
 from scribe.words.import_text import Outcome, import_in_words
 from scribe.words.links import followed
 from scribe.words.status import Stop
@@ -335,6 +336,58 @@ def test_a_row_that_others_than_hands_choose_meanwhile_is_not_the_one_in_which_i
     assert (table.currentIndex().row(), desk.row, desk.number) == (0, 0, 1)
 
 
+@pytest.fixture
+def other(moon: Path) -> Path:
+    """A book without a paragraph."""
+    path = moon.with_name("other.braildesk")
+    new_book(path)
+    return path
+
+
+def _tried(book: Path, other: Path) -> list[Why]:
+    """Why others can't have a book, nor put a copy of another one in its place."""
+    whys: list[Why] = []
+    try:
+        Session(book).close()
+    except CannotOpen as refused:
+        whys.append(refused.why)
+    try:
+        copy(other, book, overwrite=True)
+    except CannotOpen as refused:
+        whys.append(refused.why)
+    return whys
+
+
+def test_nobody_else_has_the_book_while_it_is_exported(
+    desk: Desk,
+    other: Path,
+    given: Answers,
+    monkeypatch: pytest.MonkeyPatch,
+    tmp_path: Path,
+) -> None:
+    whys: list[Why] = []
+
+    def then_exported(job: Job, console: Console) -> None:
+        whys.extend(_tried(desk.path, other))
+        export_in_words(job, console)
+
+    monkeypatch.setattr("scribe.window.files.export_in_words", then_exported)
+    (folder := tmp_path / "pages").mkdir()
+    monkeypatch.setattr(dialogs, "folder", lambda *_: str(folder))
+    desk.choose(1)
+    desk.act("heading")
+    before = desk.contents.version
+    desk.act("export")
+    assert whys == [Why.IN_USE, Why.IN_USE]
+    assert given["said"][-1].startswith(f"{folder / 'moon-1.brf'}: volume 1, ")
+    assert desk.window.message.text == given["said"][-1]
+    written = (folder / "moon-1.brf").read_bytes()
+    desk.act("take_back")
+    assert desk.contents.version == before + 1
+    desk.act("export")
+    assert (folder / "moon-1.brf").read_bytes() != written
+
+
 @pytest.mark.parametrize("is_done", [False, True])
 def test_what_others_changed_during_an_export_is_said(
     desk: Desk, tmp_path: Path, monkeypatch: pytest.MonkeyPatch, is_done: bool
@@ -345,6 +398,8 @@ def test_what_others_changed_during_an_export_is_said(
         console.show("The volumes are written.")
 
     reported: list[str] = []
+    # where no copy can be made, others may have the book during an export
+    monkeypatch.setattr("tempfile.tempdir", str(tmp_path / "nowhere"))
     monkeypatch.setattr(
         dialogs, "report", lambda _, title, lines: reported.extend(lines)
     )
@@ -498,14 +553,6 @@ def test_the_history_says_who_changed_what(
     ]
 
 
-@pytest.fixture
-def other(moon: Path) -> Path:
-    """A book without a paragraph."""
-    path = moon.with_name("other.braildesk")
-    new_book(path)
-    return path
-
-
 def _while_read(patch: pytest.MonkeyPatch, deed: Callable[[], object]) -> None:
     """Has something be done while the text of an import is read."""
 
@@ -525,17 +572,7 @@ def test_nobody_else_has_the_book_while_a_document_is_read(
 ) -> None:
     whys: list[Why] = []
 
-    def had() -> None:
-        try:
-            Session(desk.path).close()
-        except CannotOpen as refused:
-            whys.append(refused.why)
-        try:
-            copy(other, desk.path, overwrite=True)
-        except CannotOpen as refused:
-            whys.append(refused.why)
-
-    _while_read(monkeypatch, had)
+    _while_read(monkeypatch, lambda: whys.extend(_tried(desk.path, other)))
     desk.act("heading")
     (text := tmp_path / "tides.md").write_text("One *and*.\n\nTwo.\n")
     desk.window.dropped.emit(text)

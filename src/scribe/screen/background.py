@@ -1,4 +1,4 @@
-"""What is done with the session closed: an export, and an import."""
+"""An export, from a copy if one can be made, and an import: what is done beside the screen."""
 
 import os
 from collections.abc import Callable
@@ -53,10 +53,12 @@ def done_in_background(
     report: Callable[[str], None],
     check: Callable[[], None],
     held: os.stat_result | None = None,
+    copy: Path | None = None,
 ) -> ActionResult:
     """Does an action as the command of the same name does, until the check has it end.
 
     An import holds the file that the screen had open; raises `Displaced` where another is there by now.
+    An export is made from a copy, if there is one.
     """
     shown, said = Heard(report), Heard(report)
     console = _Beside(BytesIO(), shown, said, check, tell=report)
@@ -65,9 +67,8 @@ def done_in_background(
     try:
         with in_sentences():
             if isinstance(action, ExportTo):
-                export_in_words(
-                    Job(path, action.folder, action.page_size, USUAL_WAIT), console
-                )
+                job = Job(path, action.folder, action.page_size, USUAL_WAIT, copy=copy)
+                export_in_words(job, console)
             else:
                 ending = _imported(path, action, console, ending, lacking, held)
     except Displaced:

@@ -126,6 +126,7 @@ from scribe.words.drafts import (
     taken_back_in_part,
     where_typed,
 )
+from scribe.words.export import copy_of_open
 from scribe.words.links import led
 from scribe.words.paragraph import counted, part_of
 from scribe.words.preview import Preview, Tables
@@ -366,7 +367,24 @@ class Desk:
             return self._done_in_whole(state, action, report)
         if isinstance(action, TypeAll):
             return self._taken(Step(state, action), self._told(report))
-        return self._done_while_closed(state, action, report)
+        found = None
+        if isinstance(action, ExportTo):
+            found = self._exported(state, action, report)
+        return found or self._done_while_closed(state, action, report)
+
+    def _exported(
+        self, state: State, action: ExportTo, report: Callable[[str], None]
+    ) -> State | None:
+        """Exports from a copy, while nobody else has the book; none if none can be made."""
+        try:
+            with copy_of_open(self._session, self.path, self._check) as copy:
+                if copy is None:
+                    return None
+                its = self.path, action, report, self._check
+                ending = done_in_background(*its, copy=copy)
+        except Lost as lost:
+            return self._after_loss(state, lost)
+        return self._drawn(_after_closed(state, state, ending))
 
     def _done_while_closed(
         self,

@@ -3,6 +3,7 @@
 import signal
 from collections.abc import Callable, Sequence
 from dataclasses import dataclass, replace
+from functools import partial
 from io import BytesIO
 from pathlib import Path
 from typing import Any
@@ -25,7 +26,7 @@ from scribe.window.desk import Desk
 from scribe.window.dialogs import IsStopped, Say
 from scribe.words.console import Console, Heard
 from scribe.words.deeds import changed_between
-from scribe.words.export import export_in_words
+from scribe.words.export import copy_of_open, export_in_words
 from scribe.words.status import (
     Interrupted,
     Stop,
@@ -96,11 +97,12 @@ class Files:
         self._folder = folder
         job = Job(desk.path, folder, desk.page_size, USUAL_WAIT)
 
-        def act(console: Console) -> int:
-            export_in_words(job, console)
+        def act(console: Console, copy: Path | None = None) -> int:
+            export_in_words(replace(job, copy=copy), console)
             return 0
 
-        self._aside("Export", act, 0)
+        if not self._from_copy("Export", act):
+            self._aside("Export", act, 0)
 
     def proof(self) -> None:
         """Asks for a file, and writes a proof there."""
@@ -218,6 +220,34 @@ class Files:
             desk.say(
                 f"The rest of {note.name} is left out. What is in the book stays there."
             )
+
+    def _from_copy(self, title: str, act: Callable[..., int]) -> bool:
+        """Does something with a copy, while nobody else has the book, and shows what was said of it.
+
+        If none can be made, nothing is done.
+        """
+        desk = self.desk
+
+        def whole(say: Say, is_stopped: IsStopped) -> list[str] | None:
+            heard = Heard(say)
+            check = _until(is_stopped)
+            console = _Beside(BytesIO(), heard, heard, check, tell=say)
+            with copy_of_open(desk.book.session, desk.path, check) as copy:
+                if copy is None:
+                    return None
+                _told(partial(act, copy=copy), console, [], 0)
+            return heard.getvalue().splitlines()
+
+        try:
+            lines = desk.long(title, whole)
+        except Lost as lost:
+            self._lost(title, [f"{title}: nothing was done."], lost)
+            return True
+        if lines is None:
+            return False
+        desk.say(lines[-1] if lines else f"{title}: done.")
+        dialogs.report(desk.window, title, lines)
+        return True
 
     def _aside(
         self,

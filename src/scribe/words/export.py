@@ -1,8 +1,11 @@
 """An export in words: what became of each volume."""
 
-from collections.abc import Iterator, Sequence
+from collections.abc import Callable, Iterator, Sequence
+from contextlib import ExitStack, contextmanager
 from dataclasses import replace
+from pathlib import Path
 
+from braildesk import DeskError, Lost, Session, check
 from braildesk.desk.export import (
     BookChanges,
     Differences,
@@ -24,6 +27,34 @@ from braildesk.workshop import MayNotLast, Swapped
 from scribe.words.console import Console, OutputFailed
 from scribe.words.paragraph import counted
 from scribe.words.status import Interrupted, Status, may_not_last, stopped_by
+
+
+@contextmanager
+def copy_of_open(
+    session: Session, path: Path, judge: Callable[[], None]
+) -> Iterator[Path | None]:
+    """A copy of a book that a session has open, to be exported from; none where none can be made.
+
+    Nor is there one if that is stopped. Raises `Lost` where the session has ended, or another file is at the path.
+    """
+    # imported here, since a command of the shell needs it for few books
+    from braildesk.snapshot import copied
+
+    copy = None
+    with ExitStack() as stack:
+        try:
+            made = stack.enter_context(copied(path))
+            # it is of this book if that is open still, and at its path
+            session.version()
+            session.tables()
+            check(made, while_waiting=judge)
+            copy = made
+        except Lost:
+            raise
+        except (DeskError, OSError, Interrupted):
+            # as if the temporary folder has no room: others may have the book then
+            pass
+        yield copy
 
 
 def export_in_words(job: Job, console: Console) -> Status:
