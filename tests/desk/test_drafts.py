@@ -471,6 +471,25 @@ def test_a_text_that_is_kept_later_takes_no_older_one_away(
     assert [each.text[0] for each in unsent.texts()] == ["c", "b", "a"]
 
 
+def test_a_text_that_waits_and_finds_no_room_as_it_is_given_up_is_said_to_wait_still(
+    moon: Path, store: Path, monkeypatch: pytest.MonkeyPatch
+) -> None:
+    Unsent(Drafts(moon)).keep(NOTE)
+    unsent = Unsent(Drafts(moon))
+    unsent.read()
+
+    def full(folder: OwnFolder, name: str, data: bytes) -> None:
+        raise OSError(errno.ENOSPC, os.strerror(errno.ENOSPC))
+
+    with monkeypatch.context() as patched:
+        patched.setattr(OwnFolder, "write", full)
+        said = unsent.put_by(NOTE)
+        unsent.keep(None)
+        assert said.endswith("It waits still, and the next opening asks about it.")
+        assert unsent.unkept == ()
+    assert Drafts(moon).waiting() == NOTE
+
+
 def test_of_texts_that_read_the_same_the_one_that_was_given_up_last_is_brought_back(
     moon: Path, store: Path, monkeypatch: pytest.MonkeyPatch
 ) -> None:
@@ -538,7 +557,7 @@ def test_a_text_that_was_given_up_and_can_not_be_kept_waits_on_before_one_left_f
     unsent.put_off()
     unsent.keep(NOTE)
     its.place.with_suffix(".given-up").symlink_to(moon)
-    assert unsent.put_by(NOTE).endswith("It is here only until scribe ends.")
+    assert unsent.put_by(NOTE).endswith("and the next opening asks about it.")
     unsent.keep(None)
     assert (its.waiting(), its.later()) == (NOTE, (text,))
     its.place.with_suffix(".given-up").unlink()

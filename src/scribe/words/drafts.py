@@ -36,6 +36,9 @@ _BEGUN = {
     Begun.CHANGES: "How far the change of words comes",
     Begun.BACK: "How far the taking back comes",
 }
+# where a text is that can't be kept among those given up
+_HERE_ONLY = "It is here only until scribe ends."
+_WAITS_ON = "It waits still, and the next opening asks about it."
 
 
 def taken_back_in_part(drafts: Drafts, version: int) -> str:
@@ -361,7 +364,8 @@ class Unsent:
     @property
     def unkept(self) -> tuple[str, ...]:
         """The texts that were given up and are kept nowhere, the newest first."""
-        return tuple(each.text for each in self._here)
+        # one that waits is where it was kept before
+        return tuple(each.text for each in self._here if each != self.waiting)
 
     def keep_cut(self, text: str) -> None:
         """Keeps what was last cut out of a text, or nothing; may raise `NotKept`."""
@@ -396,9 +400,9 @@ class Unsent:
             older = self._drafts.put_by(draft)
         except NotKept as fault:
             self._here.insert(0, draft)
-            here_only = f"{not_kept(fault)} It is here only until scribe ends."
-            self.unkept_said = here_only
-            return here_only
+            where = _WAITS_ON if draft == self.waiting else _HERE_ONLY
+            self.unkept_said = f"{not_kept(fault)} {where}"
+            return self.unkept_said
         self._older = (*older, *self._older)
         if not older:
             return ""
