@@ -15,6 +15,7 @@ import sys
 import termios
 from collections.abc import Callable, Iterator
 from contextlib import AbstractContextManager, contextmanager, suppress
+from functools import partial
 from io import TextIOWrapper
 from types import FrameType, TracebackType
 from typing import Protocol, Self
@@ -125,8 +126,9 @@ class TypedLines(AbstractContextManager["TypedLines"]):
         for setting in _SETTINGS:
             readline.parse_and_bind(setting)
         readline.set_auto_history(False)
-        # until then the line before stands where the next one is typed
-        readline.set_startup_hook(self._begin)
+        # until then the line before stands where the next one is typed; readline would drop what a signal
+        # raises in code of Python here, and this runs none
+        readline.set_startup_hook(partial(setattr, self, "_is_begun", True))
         self._before = termios.tcgetattr(0)
         #: The prompt of the line that is typed, if one is.
         self._prompt: str | None = None
@@ -206,9 +208,6 @@ class TypedLines(AbstractContextManager["TypedLines"]):
                 found += part
         text = _NO_TEXT.sub("", found.decode(errors="replace"))
         return text.replace("\r", "\n")
-
-    def _begin(self) -> None:
-        self._is_begun = True
 
     def _break_off(self) -> None:
         """Leaves the line that is typed, of which nobody sees the end if the terminal was closed."""
