@@ -9,8 +9,8 @@ typed, and `moves` has the keys of the cursor.
 `desk` sends commands and actions to the session with the book and gives the state after them.
 `drawn` asks for what is drawn of it, `finding` and `in_hand` put the cursor at what was found,
 `lists` and `by_pages` have the marks and the headings with their pages, `whole_book` changes words
-and volumes, and `background` has what is done with the session closed. `waiting` is about texts
-that aren't in the book, and `at_opening` about the first screen.
+and volumes, and `background` has exports and imports, which are done beside it. `waiting` is about
+texts that aren't in the book, and `at_opening` about the first screen.
 
 `terminal` alone knows the terminal: `keyboard` reads keys from it, `arrivals` says which text no
 hands typed, and `unread` what is kept of keys that aren't carried out. Of what is drawn, `body` has

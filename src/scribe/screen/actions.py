@@ -177,7 +177,7 @@ class GoOn:
 
 @dataclass(frozen=True)
 class ExportTo:
-    """Exports all volumes to a folder on pages of a size, with the session closed meanwhile."""
+    """Exports all volumes to a folder on pages of a size, from a copy of the book if one can be made."""
 
     folder: Path
     page_size: PageSize = PageSize()
@@ -185,7 +185,7 @@ class ExportTo:
 
 @dataclass(frozen=True)
 class ImportFrom:
-    """Imports a text file after a paragraph by a table, with the session closed meanwhile."""
+    """Imports a text file after a paragraph by a table, in a session of its own that holds the book."""
 
     path: Path
     after: After
