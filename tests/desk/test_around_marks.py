@@ -1,4 +1,4 @@
-"""The corrections of an edit: one, or more around words that stay and have a mark."""
+"""The corrections of an edit: one, or more around the words of marks."""
 
 import time
 from collections.abc import Sequence
@@ -34,9 +34,30 @@ CASES: list[tuple[str, str, list[Mark], list[tuple[int, int, str]]]] = [
     # only the marks within what changes part it
     ("a b c d e", "a X c Y e", on("a b c d e", "a", "e"), [(2, 5, "X c Y")]),
     ("a b c d e", "a X c Y e", on("a b c d e", "c"), [(6, 1, "Y"), (2, 1, "X")]),
-    # a mark on a word that changes, or on one of two that do, parts nothing
-    ("a b c d e", "a X c Y e", on("a b c d e", "b c"), [(2, 5, "X c Y")]),
-    ("a men c d", "X mon c Y", on("a men c d", "men"), [(0, 9, "X mon c Y")]),
+    # what changes of marked words is corrected by itself
+    ("a b c d e", "a X c Y e", on("a b c d e", "b c"), [(6, 1, "Y"), (2, 1, "X")]),
+    ("a b c d e", "a X c Y e", on("a b c d e", "d"), [(6, 1, "Y"), (2, 1, "X")]),
+    ("a b c d e", "X b c Y e", on("a b c d e", "c d"), [(6, 1, "Y"), (0, 1, "X")]),
+    ("a b c d e", "a X c Y e", on("a b c d e", "a b"), [(6, 1, "Y"), (2, 1, "X")]),
+    (
+        "abcd efgh i",
+        "abXd efgh Y",
+        on("abcd efgh i", "cd ef"),
+        [(10, 1, "Y"), (2, 1, "X")],
+    ),
+    # with what changes side by side with them
+    ("a men c d", "X mon c Y", on("a men c d", "men"), [(8, 1, "Y"), (0, 4, "X mo")]),
+    # a mark on all that changes parts nothing
+    ("a b c d e", "a X c Y e", on("a b c d e", "a b c d e"), [(2, 5, "X c Y")]),
+    ("a b c d e", "a X c Y e", on("a b c d e", "b c d"), [(2, 5, "X c Y")]),
+    # nor does any if that would touch another one, which one correction doesn't
+    ("a b c c", "X b c", on("a b c c", "b"), [(5, 2, ""), (0, 1, "X")]),
+    (
+        "a b c c",
+        "X b c",
+        [*on("a b c c", "b"), Mark(2, 6, 7, False, False, "?")],
+        [(0, 5, "X b")],
+    ),
     # also a part of a word, with what belongs to it
     ("a beach c", "X beach Y", on("a beach c", "eac"), [(8, 1, "Y"), (0, 1, "X")]),
     # and a blank behind it
@@ -53,7 +74,7 @@ CASES: list[tuple[str, str, list[Mark], list[tuple[int, int, str]]]] = [
     # words that change their order
     ("a b c d", "d c b a", on("a b c d", "a"), [(1, 6, ""), (0, 0, "d c b ")]),
     # the first of two that are the same is gone
-    ("x a y a z", "X y a Z", on("x a y a z", "a y"), [(0, 9, "X y a Z")]),
+    ("x a y a z", "X y a Z", on("x a y a z", "a y"), [(8, 1, "Z"), (0, 3, "X")]),
     ("x a y a z", "X y a Z", on("x a y a z", "y"), [(8, 1, "Z"), (0, 3, "X")]),
     # no combining sequence is cut
     (
@@ -92,9 +113,8 @@ def made(old: str, parts: Sequence[Correction], mark: Mark) -> tuple[str, Span |
     return old, its
 
 
-TEXTS = st.lists(
-    st.sampled_from(["a", "b", "ab", "q\u0307", "\u0307", " ", " ", "á"]), max_size=14
-)
+PIECES = ["a", "b", "ab", "q\u0307", "\u0307", " ", " ", "á", " a b", " ab ab"]
+TEXTS = st.lists(st.sampled_from(PIECES), max_size=14)
 PRINTS = TEXTS.map(lambda words: composed("".join(words)))
 
 

@@ -202,7 +202,7 @@ def test_marks_between_words_that_change_stay_on_their_words(marked: Path) -> No
         0,
         "Paragraph 1: Two [women stood on the moon,] on the mooon.\n"
         "Before: Two [men stood on the mooon,] on the mooon.\n"
-        "These are 2 corrections, with marked words left between: undo takes back one at a"
+        "These are 2 corrections, so that marks stay on their words: undo takes back one at a"
         " time.\n"
         "The book is at version 9.\n",
         "",
@@ -217,6 +217,16 @@ def test_marks_between_words_that_change_stay_on_their_words(marked: Path) -> No
     with Session(marked) as session:
         assert session.print_of(1) == "Two men stood on the mooon, on the mooon."
     assert spans(marked) == [("stood", False), ("on", False)]
+
+
+def test_a_mark_on_words_that_change_grows_over_no_others(moon: Path) -> None:
+    with Session(moon) as session:
+        session.add_mark(1, session.output_position(1, 8), 5, "stood so?")
+    ran = change(moon, "1", OLD, "men stand on the moon,")
+    assert ran.status == 0
+    assert "Mark 1, open, touched, on “stand”: stood so?\n" in ran.shown
+    assert "These are 2 corrections, so that marks stay on their words:" in ran.shown
+    assert spans(moon) == [("stand", True)]
 
 
 def test_a_change_around_marks_is_refused_as_a_whole_for_what_the_table_lacks(

@@ -1,11 +1,11 @@
-"""The corrections that make one print of another and leave alone the words on which marks stand.
+"""The corrections that make one print of another and leave marks on their words.
 
-A mark within what a correction takes away covers all that came in, for good. So an edit that changes
-a print at several places is parted where a mark stands between them, on words that stay as they are.
+A mark that a correction touches covers all that came in, for good. So an edit that changes a print at
+several places is parted around the words of marks: these stay as they are, or are corrected alone.
 """
 
 from collections import Counter
-from collections.abc import Iterable, Iterator, Sequence
+from collections.abc import Iterable, Iterator, Mapping, Sequence
 from dataclasses import replace
 from itertools import groupby
 
@@ -26,21 +26,21 @@ def corrections(old: str, new: str, marks: Iterable[Mark]) -> tuple[Correction, 
     """The corrections that make the new print of the old one, none if they are the same.
 
     The last of the print comes first, so that each is right once those before it are made. It is the
-    smallest one alone unless a mark of the paragraph lies within that, on words that stay.
+    smallest one alone unless it would take a mark of the paragraph beyond its words.
     """
     least = smallest_correction(old, new)
     if least is None:
         return ()
-    within = [
-        Span(mark.start, mark.stop)
-        for mark in marks
-        if least.start <= mark.start < mark.stop <= least.stop
-    ]
-    parts = _parted(old, new, _stays(old, new, least, within) if within else [])
+    touched, others = list[Span](), list[Span]()
+    for mark in marks:
+        its = Span(mark.start, mark.stop)
+        (touched if _is_touched(its, least) else others).append(its)
+    parts = _parted(old, new, _stays(old, new, least, touched) if touched else [])
     is_long = any(
         len(text) > limits.PRINT_CHARACTERS for text in prints_between(old, parts)
     )
-    return (least,) if is_long else parts
+    is_more = any(_is_touched(its, part) for its in others for part in parts)
+    return (least,) if is_long or is_more else parts
 
 
 def prints_between(old: str, parts: Sequence[Correction]) -> list[str]:
@@ -50,6 +50,11 @@ def prints_between(old: str, parts: Sequence[Correction]) -> list[str]:
         old = part.applied(old)
         prints.append(old)
     return prints
+
+
+def _is_touched(its: Span, by: Correction) -> bool:
+    """Whether a correction of a print touches a mark on a span of it."""
+    return its.start < by.stop and by.start < its.stop
 
 
 def _parted(old: str, new: str, stays: Iterable[_Stay]) -> tuple[Correction, ...]:
@@ -73,7 +78,10 @@ def _parted(old: str, new: str, stays: Iterable[_Stay]) -> tuple[Correction, ...
 def _stays(
     old: str, new: str, least: Correction, spans: Iterable[Span]
 ) -> Iterator[_Stay]:
-    """The words of some spans that stay as they are while others beside them change."""
+    """The words of some spans that stay as they are while others beside them change.
+
+    Of a span that changes too, these are the words that part its changes from those beside it.
+    """
     before = _words(old, least.start, least.stop)
     further = _further(old, new, before, least)
     ends, new_ends = set(seams(old)), set(seams(new))
@@ -81,13 +89,25 @@ def _stays(
         its = [
             word for word in before if word.start < span.stop and span.start < word.stop
         ]
-        by = further.get(its[0]) if its else None
-        if by is None:
+        if not its:
             continue
         start, stop = min(its[0].start, span.start), max(its[-1].stop, span.stop)
+        by = further.get(its[0], 0)
         is_seam = {start, stop} <= ends and {start + by, stop + by} <= new_ends
-        if is_seam and old[start:stop] == new[start + by : stop + by]:
+        is_same = is_seam and old[start:stop] == new[start + by : stop + by]
+        if is_same and its[0] in further:
             yield Span(start, stop), by
+            continue
+        if least.start <= span.start:
+            up_to = [word for word in before if word.start <= its[0].start]
+            yield from _first(reversed(up_to), further)
+        if span.stop <= least.stop:
+            yield from _first(before[before.index(its[-1]) :], further)
+
+
+def _first(words: Iterable[Span], further: Mapping[Span, int]) -> list[_Stay]:
+    """The first of some words that stays, if one does."""
+    return [(word, further[word]) for word in words if word in further][:1]
 
 
 def _further(

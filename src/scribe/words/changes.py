@@ -293,7 +293,7 @@ def change_lines(change: Change, width: int) -> list[str]:
     lines = changed_lines(change, width)
     if change.corrections > 1:
         lines.append(
-            f"These are {change.corrections:,} corrections, with marked words left between:"
+            f"These are {change.corrections:,} corrections, so that marks stay on their words:"
             " undo takes back one at a time."
         )
     return [*lines, at_version(change.version)]

@@ -17,9 +17,9 @@ from scribe.words.typed import text, words
 
 MORE = """\
 OLD has to be in the paragraph just once; if it is there more often, --nth says which
-place is meant. The fewest characters are corrected, so that a mark whose words stay as
-they are is not touched: around such words it may be more than one correction. The line
-is shown as it is now, and as it was before."""
+place is meant. The fewest characters are corrected, and around the words of marks, so
+that these stay on them, it may be more than one correction. The line is shown as it is
+now, and as it was before."""
 EXAMPLE = "scribe change moon.braildesk 1 'far away' 'very far away' --by anna"
 
 
