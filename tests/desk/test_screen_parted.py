@@ -67,6 +67,22 @@ def test_lines_that_are_pasted_into_it_leave_the_mark_on_its_words_too(
         assert marked(session) == ("moon", False)
 
 
+def test_a_mark_on_words_that_go_into_another_paragraph_is_said_to_stay(
+    moon: Path, sit: Sit
+) -> None:
+    sat = sit(moon)
+    sat.press("enter", "home", *["right"] * 3)
+    sat.state = sat.desk.paste(sat.state, " sea.\nThe")
+    sat.press("y")
+    assert sat.state.message == "Mark 1 was touched, and stays in paragraph 1."
+    sat.desk.close()
+    with once_free(moon) as session:
+        assert [session.print_of(1), session.print_of(4)] == [
+            "The sea.",
+            "The moon is far away.",
+        ]
+
+
 def test_what_the_table_lacks_is_refused_before_any_of_it_is_kept(
     moon: Path, sit: Sit
 ) -> None:

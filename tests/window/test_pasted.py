@@ -122,6 +122,19 @@ def test_what_is_typed_after_pasted_paragraphs_comes_after_them(
     assert (desk.window.print.text, desk.window.print.place) == wanted
 
 
+def test_a_mark_on_words_that_go_into_another_paragraph_is_said_to_stay(
+    desk: Desk, given: Answers
+) -> None:
+    given["choices"] = [0]
+    desk.show(desk.contents, 2)
+    desk.window.print.put_caret(3)
+    pasted(desk, Text=" sea.\nThe")
+    assert prints_of(desk)[1:3] == ["The sea.", "The mon is far away."]
+    assert desk.window.message.text == (
+        "Kept: paragraph 4. Mark 1 was touched, and stays in paragraph 2."
+    )
+
+
 def test_a_paragraph_and_those_after_it_of_pasted_lines_are_taken_back_together(
     desk: Desk, given: Answers
 ) -> None:

@@ -1,5 +1,6 @@
 """Words of a paragraph, and others that are put in their place."""
 
+from collections.abc import Sequence
 from dataclasses import dataclass, replace
 
 from braildesk import DeskError, Lost, Mark, Refused, Session, Undefined, translate
@@ -108,7 +109,7 @@ def change_by(session: Session, plan: Planned, by: str | None = None) -> Change:
     return Change(version, number, now, before, came, went, touched, count)
 
 
-def newly_touched(before: tuple[Mark, ...], now: tuple[Mark, ...]) -> tuple[Mark, ...]:
+def newly_touched(before: Sequence[Mark], now: Sequence[Mark]) -> tuple[Mark, ...]:
     """The marks of a paragraph that are touched now and weren't before."""
     fresh = {mark.id for mark in before if not mark.touched}
     return tuple(mark for mark in now if mark.touched and mark.id in fresh)

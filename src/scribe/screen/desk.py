@@ -117,7 +117,7 @@ from scribe.screen.waiting import (
 from scribe.words import deeds, pagelook
 from scribe.words.aftermath import deed_found, found_again, kept_alone
 from scribe.words.change_all import STAY
-from scribe.words.changes import edit_in_part, not_given
+from scribe.words.changes import edit_in_part, left_behind, not_given
 from scribe.words.deeds import Deed, kept, kept_parts
 from scribe.words.drafts import (
     Unsent,
@@ -1246,6 +1246,7 @@ class Desk:
             found = typed.state
             if typed.newest is not None:
                 found = self._changed(found, typed.newest, state)
+                found = _saying_left_behind(found, waiting, state)
         except (Lost, Interrupted) as stop:
             # those that are left wait
             raise _Interrupted(typed.state, stop) from stop
@@ -1271,6 +1272,15 @@ class Desk:
             f"Once nothing is typed any more, U brings back the {what} after this one."
         )
         return self.saved(state.saying_too(f"{back} {fault}".rstrip()))
+
+
+def _saying_left_behind(state: State, before: State, after: State) -> State:
+    """The state with the marks said that the first of some lines touched in its paragraph."""
+    if before.reading is None or after.reading is None:
+        return state
+    was, now = before.reading, after.reading
+    said = left_behind(was.marks, now.marks, now.paragraph.id)
+    return state.saying(said) if said else state
 
 
 def _with_done(state: State, version: int, said: str, deed: Deed | None) -> State:

@@ -22,6 +22,7 @@ from scribe.window.book import Done, NotAll, NothingToTakeBack, ChosenParagraph
 from scribe.window.desk import Desk, New
 from scribe.window.dialogs import IsStopped, Say
 from scribe.window.fields import MOST_OF_LINES, MOST_OF_ONE
+from scribe.words.changes import left_behind
 from scribe.words.deeds import Deed
 from scribe.words.drafts import (
     beside_struck,
@@ -412,7 +413,7 @@ class Typed:
             desk.keep_draft(desk.draft())
             raise Stop(said)
         self._wait(whole)
-        done = desk.book.deeds
+        done, left = desk.book.deeds, ""
         commands: list[Callable[[int | None], Command[Any]]] = []
         if new is not None:
             after = desk.after(new)
@@ -421,10 +422,11 @@ class Typed:
             )
         elif reading is not None:
             others = whole.after_first_line(reading.its.paragraph.id)
-            self._corrected_first(reading, lines[0], others)
+            left = self._corrected_first(reading, lines[0], others)
             self._wait(others)
         commands += [_typed_after(number, table, line) for line in lines[1:]]
         self._typed_all(commands, done)
+        desk.say_too(left)
         text = desk.window.print.text
         desk.window.print.put_caret(len(text.removesuffix(behind)))
 
@@ -437,8 +439,11 @@ class Typed:
 
     def _corrected_first(
         self, reading: ChosenParagraph, line: str, others: Draft | None
-    ) -> None:
-        """Makes the chosen paragraph the first of some lines, which stays typed if it is refused."""
+    ) -> str:
+        """Makes the chosen paragraph the first of some lines, which stays typed if it is refused.
+
+        Gives what is said of the marks that this touched.
+        """
         desk = self.desk
         try:
             done = desk.asked(lambda: desk.book.corrected(reading, line))
@@ -452,6 +457,8 @@ class Typed:
             raise Stop(f"{refused.sentence} {more}".rstrip()) from refused
         if done is not None:
             desk.show_done(done)
+        now = desk.reading or reading
+        return left_behind(reading.its.marks, now.its.marks, now.its.paragraph.id)
 
     def _typed_all(
         self,

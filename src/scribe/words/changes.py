@@ -1,6 +1,6 @@
 """What was changed in a book, in words: what is now first, then what was."""
 
-from collections.abc import Callable, Iterable, Iterator
+from collections.abc import Callable, Iterable, Iterator, Sequence
 from dataclasses import replace
 from typing import Any, TypeVar
 
@@ -8,6 +8,7 @@ from braildesk import (
     Failed,
     Kind,
     Lost,
+    Mark,
     NoMemory,
     Paragraph,
     Refused,
@@ -325,6 +326,17 @@ def edit_in_part(done: int, refused: Refused) -> str:
     is_are = "is" if done == 1 else "are"
     kept = f"{counted(done, 'correction')} of this edit {is_are} kept"
     return f"{kept}, and the rest isn't. {refused.reason}"
+
+
+def left_behind(before: Sequence[Mark], now: Sequence[Mark], number: int) -> str:
+    """The sentence for marks that stay in a paragraph whose last words go into another; or nothing."""
+    touched = [str(mark.id) for mark in newly_touched(before, now)]
+    if not touched:
+        return ""
+    if len(touched) == 1:
+        return f"Mark {touched[0]} was touched, and stays in paragraph {number}."
+    names = f"{', '.join(touched[:-1])} and {touched[-1]}"
+    return f"The marks {names} were touched, and stay in paragraph {number}."
 
 
 def wider(marked: MarkedWords) -> str:
