@@ -120,6 +120,23 @@ def test_the_rest_stays_typed_where_it_is_refused_and_what_is_kept_is_said(
     assert marked(sat.desk._session) == ("moon", False)
 
 
+def test_it_is_said_too_where_lines_are_pasted_into_it(
+    moon: Path, sit: Sit, monkeypatch: pytest.MonkeyPatch
+) -> None:
+    with monkeypatch.context() as patched:
+        for name, value in standing_in(2, READ, REPLY, "no", "90").items():
+            patched.setenv(name, value)
+        sat = sit(moon)
+        sat.press("enter", "home", "X", "end")
+        sat.state = sat.desk.paste(sat.state, " Yes.\nOh,\n")
+        sat.press("y")
+    assert sat.state.message.startswith(
+        "1 correction of this edit is kept, and the rest isn't."
+    )
+    assert sat.state.message.endswith("U brings back the line after this one.")
+    assert sat.state.typed and sat.state.typed.text == NOW
+
+
 @pytest.mark.parametrize("far, print_now", [(READ, f"{BEFORE} Yes."), (KEPT, NOW)])
 def test_what_a_lost_session_kept_of_it_is_said_and_the_rest_waits(
     moon: Path,

@@ -1197,7 +1197,7 @@ class Desk:
         self, state: State, action: TypeAll, tell: whole_book.Report
     ) -> State:
         """Types paragraphs until one is refused, which stays typed; U brings back those after it."""
-        before = len(state.deeds)
+        before, version = len(state.deeds), state.version
         try:
             for count, line in enumerate(action.lines):
                 purpose = Purpose.AFTER if count else action.purpose
@@ -1215,6 +1215,8 @@ class Desk:
                 raise
             left = state.question.lines if state.question else ()
             said = f"{len(lines) - len(left)} typed. {interrupted.cause.reason}"
+            if len(left) == len(lines) and state.version > version:
+                said = edit_in_part(state.version - version, interrupted.cause)
             return self._refused_among(state.failing(said), left)
         state = replace(state, typed=None, preview=None)
         return done_by_one_key(
