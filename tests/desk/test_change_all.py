@@ -83,6 +83,20 @@ def test_each_place_is_shown_after_and_before_and_all_are_counted(moons: Path) -
         assert len(session.history_of(2)) == 2
 
 
+def test_a_mark_between_two_changes_of_a_place_is_touched_as_is_said(
+    moons: Path,
+) -> None:
+    with Session(moons) as session:
+        session.add_mark(1, session.output_position(1, 10), 3, "so?")
+    ran = changed(moons, "The mooon and", "The moon and")
+    assert "Mark 1" not in ran.shown
+    ran = changed(moons, "moon and the", "sun and a")
+    assert ran.shown.endswith("Mark 1, open, touched, on “sun and a”: so?\n")
+    said = "A mark between two changes of one place is touched, and covers both then."
+    shown = scribe("change-all", "--help", folder=moons.parent).shown
+    assert said in " ".join(shown.split())
+
+
 def test_what_is_refused_stays_and_is_listed_with_the_reason(moons: Path) -> None:
     ran = changed(moons, "mooon", "moon")
     assert ran.status == 2

@@ -41,10 +41,11 @@ from scribe.words.typed import InvalidInput, text, words
 
 MORE = """\
 Each place is a correction of its own, of the fewest characters, and is shown as it is now
-and as it was. With --ask each is shown before, and changed or left as you answer. --words
-leaves alone what is part of a longer word. With --case words with other capitals are
-changed too, and the new words take these: moon, Moon and MOON become sun, Sun and SUN.
-Places that the book refuses stay as they are, and are listed at the end with the reason."""
+and as it was. A mark between two changes of one place is touched, and covers both then.
+With --ask each is shown before, and changed or left as you answer. --words leaves alone
+what is part of a longer word. With --case words with other capitals are changed too, and
+the new words take these: moon, Moon and MOON become sun, Sun and SUN. Places that the
+book refuses stay as they are, and are listed at the end with the reason."""
 EXAMPLE = """\
 scribe change-all moon.braildesk moon sun --words --dry-run
 scribe change-all moon.braildesk moon sun --case --in 1-2 --by anna"""
