@@ -137,6 +137,27 @@ def test_it_is_said_too_where_lines_are_pasted_into_it(
     assert sat.state.typed and sat.state.typed.text == NOW
 
 
+def test_a_line_after_it_that_reads_as_the_newest_paragraph_is_not_lost_with_a_session(
+    moon: Path, sit: Sit, monkeypatch: pytest.MonkeyPatch
+) -> None:
+    with monkeypatch.context() as patched:
+        for name, value in standing_in(2, KEPT, KILL_PROGRAM).items():
+            patched.setenv(name, value)
+        sat = sit(moon)
+        sat.press("enter", "home", "X", "end")
+        patched.undo()
+        newest = "Twice a day the sea comes up."
+        sat.state = sat.desk.paste(sat.state, f" Yes.\n{newest}\n")
+        sat.press("y")
+    assert sat.state.reading and sat.state.reading.text == NOW
+    assert sat.state.question and newest in sat.state.question.sentence
+    sat.press("y", "enter", "escape")
+    sat.desk.close()
+    with once_free(moon) as session:
+        assert [p.id for p in session.paragraphs()] == [1, 4, 2, 3]
+        assert session.print_of(4) == newest
+
+
 @pytest.mark.parametrize("far, print_now", [(READ, f"{BEFORE} Yes."), (KEPT, NOW)])
 def test_what_a_lost_session_kept_of_it_is_said_and_the_rest_waits(
     moon: Path,

@@ -4,7 +4,7 @@ from collections.abc import Sequence
 from dataclasses import replace
 
 from braildesk import Mark, Session
-from braildesk.desk.draft import Draft
+from braildesk.desk.draft import Aim, Draft
 from braildesk.desk.places import words_of
 from braildesk.desk.readings import answers
 from braildesk.protocol.requests import Print
@@ -75,9 +75,26 @@ def lines_left(
         rest = draft.after_first_line(newest)
         if rest is None or draft.version is None:
             return rest
-        draft, count = replace(rest, version=draft.version + 1), 0
+        made = draft.version + _corrections(session, draft)
+        draft, count = replace(rest, version=made), 0
     count = max(count, lines_kept(session, draft, version, numbers))
     return draft.after_lines(count, newest) if count else draft
+
+
+def _corrections(session: Session, draft: Draft) -> int:
+    """How many corrections made the first of some lines of the print where it was typed."""
+    number = draft.paragraph
+    if draft.aim is not Aim.EDIT or number is None:
+        return 1
+    entries, wanted = session.history_of(number), composed(draft.first_line)
+    # beside each mark there are two at most
+    for count in range(1, min(len(entries), 2 * len(session.marks_of(number)) + 1) + 1):
+        text = draft.before
+        for each in entries[-count:]:
+            text = text[: each.start] + each.text + text[each.start + each.count :]
+        if composed(text) == wanted:
+            return count
+    return 1
 
 
 def overlap(earlier: Sequence[str], later: Sequence[str]) -> int:
