@@ -83,6 +83,17 @@ def test_a_mark_on_words_that_go_into_another_paragraph_is_said_to_stay(
         ]
 
 
+def test_it_is_said_too_where_a_text_that_is_too_long_goes_on_in_another(
+    moon: Path, sit: Sit
+) -> None:
+    sat = sit(moon)
+    sat.press("enter", "home")
+    sat.state = sat.desk.paste(sat.state, "The sea is far. " * 249)
+    sat.press("enter", "y")
+    assert sat.state.typed and sat.state.typed.text == BEFORE
+    assert "Mark 1 was touched, and stays in paragraph 1." in sat.state.message
+
+
 def test_what_the_table_lacks_is_refused_before_any_of_it_is_kept(
     moon: Path, sit: Sit
 ) -> None:

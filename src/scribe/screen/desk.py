@@ -580,7 +580,7 @@ class Desk:
 
     def _gone_on(self, state: State, action: GoOn) -> State:
         """Keeps the first part of a text that is too long, and goes on with the rest."""
-        typed = state.typed
+        typed, before = state.typed, state
         assert typed is not None
         asked = typing_keys.entered(state, replace(typed, text=action.first)).asked
         if isinstance(asked, Command):
@@ -596,6 +596,7 @@ class Desk:
             except Interrupted as stop:
                 # the book may get the first part yet
                 raise _Interrupted(waiting, stop) from stop
+        state = _saying_left_behind(state, before, state)
         return self._begun(state, action.rest)
 
     def _drawn(self, state: State) -> State:
@@ -1277,7 +1278,7 @@ class Desk:
 
 
 def _saying_left_behind(state: State, before: State, after: State) -> State:
-    """The state with the marks said that the first of some lines touched in its paragraph."""
+    """The state with the marks said that were touched in a paragraph before another was begun."""
     if before.reading is None or after.reading is None:
         return state
     was, now = before.reading, after.reading
