@@ -253,6 +253,36 @@ def test_that_the_words_of_a_note_were_changed_is_said_and_which_they_were(
     assert given["said"][-1].endswith(f"“how far?”. {said} Shall it be typed further?")
 
 
+def test_that_the_paragraph_of_a_note_is_struck_is_said_where_it_is_typed_further(
+    desk: Desk, given: Answers, monkeypatch: pytest.MonkeyPatch
+) -> None:
+    draft, asked = _note_on_far(desk, monkeypatch), list[str]()
+    desk.do(requests.Strike(2))
+
+    def further(over: object, title: str, sentence: str, *_: object) -> str:
+        asked.append(sentence)
+        return "how far?"
+
+    monkeypatch.setattr(dialogs, "text_further", further)
+    monkeypatch.setattr(dialogs, "one_of", lambda _, t, a, names, f: names[0])
+    said = "Paragraph 2 is struck, so nothing goes in there until it is restored."
+    desk.act("bring_back")
+    assert asked == [f"{said} The note of a mark on “far”, cells 13 to 15:"]
+    assert desk.window.message.text == (
+        "Paragraph 2 is struck. No mark was put. Restore it first. Ctrl+B brings it back."
+    )
+    assert (_given_up(desk.path), _waiting(desk)) == (["how far?"], None)
+    Drafts(desk.path).save(draft)
+    given["choices"] = [2]
+    desk.acting(Actions(desk).offer)
+    assert given["said"][-1].endswith(f"“how far?”. {said} Shall it be typed further?")
+    # nothing of that is said of a note once it is restored
+    desk.do(requests.Restore(2))
+    desk.act("bring_back")
+    assert asked[1:] == ["The note of a mark on “far”, cells 13 to 15:"]
+    assert desk.window.message.text == "Kept: mark 2."
+
+
 def test_while_a_note_is_typed_the_end_of_the_session_is_not_looked_at_again_and_again(
     application: QApplication, desk: Desk, monkeypatch: pytest.MonkeyPatch
 ) -> None:

@@ -11,7 +11,7 @@ from braildesk.text.spans import Span
 from scribe.window import dialogs
 from scribe.window.arriving import say_there
 from scribe.window.desk import STRUCK, Desk
-from scribe.words.drafts import changed_since
+from scribe.words.drafts import changed_since, while_struck
 from scribe.words.paragraph import mark_line, quoted
 from scribe.words.status import Stop
 
@@ -52,7 +52,9 @@ class Marking:
         # a screen reader that hears of the caret first says nothing of the print
         desk.window.print.setFocus()
         if reading is not None:
+            its = reading.its.paragraph
             changed = changed_since(draft, reading.its.text)
+            changed += while_struck(its.id) if its.struck else ""
         if reading is not None and cells.stop <= len(reading.its.braille):
             there = desk.asked(partial(desk.book.by_cell, reading, cells.start))
             desk.window.print.put_caret(there.words.start)

@@ -29,6 +29,7 @@ from scribe.words.drafts import (
     changed_since,
     not_kept,
     what_for,
+    while_struck,
     without_paragraph,
 )
 from scribe.words.paragraph import part_of, quoted
@@ -218,10 +219,12 @@ class Typed:
         desk, row = self.desk, self.desk.contents.place(draft.paragraph)
         if row is None:
             return without_paragraph(draft)
-        session, number = desk.book.session, desk.contents.paragraphs[row].id
-        if desk.contents.paragraphs[row].struck and draft.aim is Aim.EDIT:
-            return beside_struck(number)
-        return changed_since(draft, desk.asked(lambda: session.print_of(number)))
+        session, its = desk.book.session, desk.contents.paragraphs[row]
+        if its.struck and draft.aim is Aim.EDIT:
+            return beside_struck(its.id)
+        changed = changed_since(draft, desk.asked(lambda: session.print_of(its.id)))
+        is_kept_out = its.struck and draft.aim is Aim.NOTE
+        return changed + while_struck(its.id) if is_kept_out else changed
 
     def type_further(self, draft: Draft) -> None:
         """Has a text be typed further that waits or was given up."""
