@@ -6,7 +6,12 @@ import pytest
 from hypothesis import given
 from hypothesis import strategies as st
 
-from braildesk.desk.correction import Correction, replaced, smallest_correction
+from braildesk.desk.correction import (
+    Correction,
+    place_before,
+    replaced,
+    smallest_correction,
+)
 from braildesk.text.sequences import composed, seams, sequences
 from braildesk.text.spans import Span, find_spans
 
@@ -139,3 +144,27 @@ def test_words_are_found_in_normal_form_c_and_cut_no_sequence(
     text: str, sought: str, places: list[tuple[int, int]]
 ) -> None:
     assert find_spans(text, sought) == tuple(Span(*span) for span in places)
+
+
+@pytest.mark.parametrize(
+    "old, typed, was",
+    [
+        # the caret, where it was typed or taken away, and where it is in what was there before
+        ("The moon.", "The| moon.", "The| moon."),
+        ("The moon.", "The far |moon.", "The |moon."),
+        ("The moon.", "The |n.", "The moo|n."),
+        ("The moon.", "The moon. So.|", "The moon.|"),
+        ("two men", "the first |two men", "|two men"),
+        ("mon", "mo|on", "m|on"),
+        # something else is another one after it, before it, and on both sides
+        ("The moon.", "The| sea.", "The| moon."),
+        ("The moon.", "So the |moon.", "The |moon."),
+        ("The moon.", "The sea| rose.", "The |moon."),
+        ("", "The moon.|", "|"),
+    ],
+)
+def test_a_caret_stays_between_what_is_there_before_and_after_it(
+    old: str, typed: str, was: str
+) -> None:
+    place = place_before(old, typed.replace("|", ""), typed.index("|"))
+    assert f"{old[:place]}|{old[place:]}" == was

@@ -764,6 +764,29 @@ def test_a_word_that_an_input_method_still_holds_is_kept_with_what_was_typed(
     assert prints_of(desk)[0] == "xinxinThe Moon"
 
 
+@pytest.mark.parametrize(
+    "place, typed, gone, there, cell",
+    [
+        (4, "far ", 0, 4, 5),
+        (8, " rose", 0, 8, 10),
+        (8, "", 4, 8, 10),
+        (0, "So", 0, 0, 0),
+    ],
+)
+def test_the_caret_stays_where_it_is_as_a_text_is_given_up(
+    desk: Desk, place: int, typed: str, gone: int, there: int, cell: int
+) -> None:
+    window, field = desk.window, desk.window.print
+    desk.act("to_print")
+    field.put_caret(place)
+    field.textCursor().insertText(typed)
+    for _ in range(gone):
+        field.textCursor().deletePreviousChar()
+    assert desk.is_typed()
+    desk.act("give_up")
+    assert (field.text, field.place, window.cells.place) == ("The Moon", there, cell)
+
+
 def test_a_window_says_at_the_end_which_book_it_had_where_its_link_leads_to_another(
     moon: Path, at: Open
 ) -> None:

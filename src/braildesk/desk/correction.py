@@ -7,6 +7,7 @@ be without cutting a combining sequence.
 from bisect import bisect_left, bisect_right
 from dataclasses import dataclass
 from itertools import takewhile
+from os.path import commonprefix
 
 from braildesk.text.sequences import composed, seams, sequences
 
@@ -72,6 +73,17 @@ def place_kept(typed: str, kept: str, place: int) -> int:
     front = composed(typed[:place])
     places = (n for n in range(len(kept)) if composed(kept[:n]) == front)
     return next(places, min(place, len(kept)))
+
+
+def place_before(old: str, typed: str, place: int) -> int:
+    """Where a place of a text that is typed over a print is in that print.
+
+    It is before what stands after it there too, or else after what stands before it.
+    """
+    front, back = typed[:place], typed[place:]
+    if old.endswith(back):
+        return len(old) - len(back)
+    return len(commonprefix((old, front)))
 
 
 def _shared(some: list[str], others: list[str]) -> int:

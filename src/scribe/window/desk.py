@@ -25,7 +25,7 @@ from braildesk import (
     Refused,
     requests,
 )
-from braildesk.desk.correction import place_kept, with_typed
+from braildesk.desk.correction import place_before, place_kept, with_typed
 from braildesk.desk.draft import Aim, Draft, Unread
 from braildesk.desk.drafts import Drafts, LeftAt, NotKept
 from braildesk.desk.highlighting import Highlighted
@@ -904,6 +904,10 @@ class Desk:
         """Where a place of what is typed is once that is kept."""
         text = self.typed_text()
         return place_kept(text, self.print_of(text), place)
+
+    def as_before(self, place: int) -> int:
+        """Where a place of what is typed is in the print as the book has it."""
+        return place_before(self.before(), self.typed_text(), place)
 
     def is_typed(self) -> bool:
         """Whether a text is typed that the book doesn't have.

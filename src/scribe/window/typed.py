@@ -183,10 +183,12 @@ class Typed:
             if focused is not desk.window.print:
                 desk.go_back()
             return
+        # of a new paragraph the print is another one
+        place = 0 if desk.new else desk.as_before(desk.window.print.place)
         back = desk.put_by(draft)
         desk.new = None
         desk.type_anew()
-        desk.show_reading(0)
+        desk.show_reading(place)
         desk.say(f"Given up. The book is as it was. {back}")
 
     def bring_back(self) -> None:
