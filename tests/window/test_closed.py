@@ -463,6 +463,30 @@ def test_letters_that_come_after_a_refusal_are_typed_on(desk: Desk) -> None:
     window.print.setPlainText("The Moon")
 
 
+@pytest.mark.parametrize("is_refused", [True, False])
+def test_what_is_pasted_into_the_message_is_said_not_to_be_typed_as_a_letter_is(
+    desk: Desk, is_refused: bool
+) -> None:
+    window, clipboard = desk.window, QApplication.clipboard()
+    assert clipboard is not None
+    clipboard.setText("far ")
+    desk.act("to_print")
+    if is_refused:
+        window.print.textCursor().insertText("#")
+        desk.act("keep")
+    desk.act("to_message")
+    text, said = window.print.text, window.message.text
+    code, held = Qt.Key.Key_V, Qt.KeyboardModifier.ControlModifier
+    for _ in range(2):
+        QApplication.sendEvent(
+            window.message, QKeyEvent(QEvent.Type.KeyPress, code, held, "\x16")
+        )
+    nowhere = "Nothing is typed here: a text goes into the print. F2 goes there."
+    assert window.message.text == f"{said} {nowhere}".lstrip()
+    assert (window.print.text, window.focusWidget()) == (text, window.message)
+    window.print.setPlainText("The Moon")
+
+
 def test_a_letter_that_dead_keys_make_is_typed_on_and_changes_nothing_that_is_read(
     desk: Desk,
 ) -> None:

@@ -465,10 +465,13 @@ class Desk:
     def _type_on(self, typed: str) -> None:
         """Types on in the print, by hands that don't know yet that the message took the focus."""
         field = self.window.print
-        if self._is_refused and self._came_from is field and not field.isReadOnly():
+        may_be = (
+            self._is_refused and self._came_from is field and not field.isReadOnly()
+        )
+        if typed and may_be:
             self.go_back()
             field.textCursor().insertText(typed)
-        elif typed.strip() and not self.window.message.text.endswith(_NOT_TYPED):
+        elif not typed.isspace() and not self.window.message.text.endswith(_NOT_TYPED):
             self.say_too(_NOT_TYPED)
 
     def _refuse_to_type(self) -> None:

@@ -80,7 +80,7 @@ class Field(QPlainTextEdit):
     left = pyqtSignal()
     #: A word was clicked on twice.
     doubled = pyqtSignal()
-    #: Characters were typed where nothing can be typed.
+    #: Characters were typed where nothing can be typed; none where something was pasted.
     typed_on = pyqtSignal(str)
 
     def __init__(self, name: str, is_read_only: bool) -> None:
@@ -221,6 +221,8 @@ class Field(QPlainTextEdit):
             self.entered.emit()
         elif key == Qt.Key.Key_Escape:
             self.left.emit()
+        elif self.isReadOnly() and event.matches(QKeySequence.StandardKey.Paste):
+            self.typed_on.emit("")
         else:
             if self.isReadOnly() and is_letter(event):
                 self.typed_on.emit(event.text())
@@ -279,14 +281,6 @@ class Print(Field):
                 event.ignore()
                 return False
         return super().event(event)
-
-    def keyPressEvent(self, event: QKeyEvent | None) -> None:
-        """Says of what is pasted too that it came where nothing can be typed."""
-        is_pasted = event is not None and event.matches(QKeySequence.StandardKey.Paste)
-        if is_pasted and self.isReadOnly():
-            self.typed_on.emit("")
-        else:
-            super().keyPressEvent(event)
 
     def put_in(self, text: str) -> None:
         """Has a text come where the caret is, or in place of what is selected, as a step of its own.
