@@ -4,9 +4,11 @@ from collections.abc import Callable, Iterator
 from pathlib import Path
 from threading import Event
 from types import SimpleNamespace
+from typing import Any, cast
 
 import pytest
 from PyQt6.QtCore import QPoint, QSize, Qt, QTimer
+from PyQt6.QtTest import QTest
 from PyQt6.QtWidgets import (
     QAbstractScrollArea,
     QApplication,
@@ -18,6 +20,7 @@ from PyQt6.QtWidgets import (
 from braildesk import Paragraph, Style
 
 from scribe.window import dialogs
+from scribe.window.fields import Field
 from scribe.window.menus import MENUS
 from scribe.window.paragraphs import WORDS
 from scribe.window.window import Window
@@ -89,6 +92,58 @@ def test_a_low_window_shows_the_message_and_the_part_with_the_focus(
     window.table.setFocus()
     row = window.table.visualRect(window.model.index(0, 0))
     assert _is_seen(window.table, row.center())
+
+
+@pytest.mark.parametrize("part", ["print", "cells"])
+@pytest.mark.parametrize("is_large", [False, True])
+def test_the_caret_stays_in_sight_while_the_page_is_shown_beside_it_and_hidden(
+    application: QApplication,
+    request: pytest.FixtureRequest,
+    part: str,
+    is_large: bool,
+) -> None:
+    if is_large:
+        request.getfixturevalue("large")
+    window = _window()
+    window.enlarge(9 if is_large else 0)
+    window.show()
+    window.resize(LOW)
+    window.activateWindow()
+    assert wait(application, PATIENCE_SECONDS, window.isActiveWindow)
+    field: Field = getattr(window, part)
+    field.show_text("moon and sea " * 200)
+    field.setFocus()
+    for place in (0, 600, 1_200, 2_600):
+        field.put_caret(place)
+        assert _is_seen(field, field.cursorRect().center())
+        for is_shown in (True, False):
+            width = field.width()
+            window.dock.setVisible(is_shown)
+            moved = lambda: field.width() != width
+            assert wait(application, PATIENCE_SECONDS, moved)
+            application.processEvents()
+            assert _is_seen(field, field.cursorRect().center())
+    window.close()
+
+
+def test_a_click_into_a_text_comes_where_that_is_seen(
+    application: QApplication,
+) -> None:
+    window, hands = _window(), cast(Any, QTest)
+    window.show()
+    window.activateWindow()
+    assert wait(application, PATIENCE_SECONDS, window.isActiveWindow)
+    field, scrolled = window.print, window.print.verticalScrollBar()
+    area = field.viewport()
+    assert scrolled is not None and area is not None
+    field.show_text("moon and sea " * 200)
+    scrolled.setValue(scrolled.maximum())
+    there = area.rect().center()
+    place = field.cursorForPosition(there).position()
+    assert place > 0 and not field.hasFocus()
+    hands.mouseClick(area, Qt.MouseButton.LeftButton, pos=there)
+    assert (field.hasFocus(), field.textCursor().position()) == (True, place)
+    window.close()
 
 
 def _is_seen(part: QAbstractScrollArea, at: QPoint) -> bool:

@@ -27,6 +27,7 @@ from PyQt6.QtGui import (
     QKeySequence,
     QMouseEvent,
     QPalette,
+    QResizeEvent,
     QTextCharFormat,
     QTextCursor,
     QTextDocumentFragment,
@@ -82,6 +83,8 @@ class Field(QPlainTextEdit):
     doubled = pyqtSignal()
     #: Characters were typed where nothing can be typed; none where something was pasted.
     typed_on = pyqtSignal(str)
+    #: It has another size, in which its caret is in sight.
+    resized = pyqtSignal()
 
     def __init__(self, name: str, is_read_only: bool) -> None:
         self._lights: tuple[Sequence[Span], Span | None] = (), None
@@ -134,6 +137,17 @@ class Field(QPlainTextEdit):
         # a style that goes takes along what was set while it was there
         if event.type() == QEvent.Type.StyleChange and self._font is not None:
             self.setFont(self._font)
+
+    def event(self, event: QEvent | None) -> bool:
+        """The caret stays in sight where this has another size, as beside the page."""
+        if event is None:
+            return False
+        is_done = super().event(event)
+        # Qt tells of the same size as the frame becomes wider
+        if isinstance(event, QResizeEvent) and event.size() != event.oldSize():
+            self.ensureCursorVisible()
+            self.resized.emit()
+        return is_done
 
     def _frame(self, has_focus: bool) -> None:
         width = frame(self, has_focus)

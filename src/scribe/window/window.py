@@ -136,6 +136,7 @@ class Window(QMainWindow):
         application.focusChanged.connect(self._bring_in_sight)
         for field in (self.print, self.cells, self.marks):
             field.cursorPositionChanged.connect(self._bring_in_sight)
+            field.resized.connect(self._bring_in_sight)
         return area
 
     def _bring_in_sight(self) -> None:
