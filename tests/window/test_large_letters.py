@@ -7,7 +7,7 @@ from types import SimpleNamespace
 from typing import Any, cast
 
 import pytest
-from PyQt6.QtCore import QPoint, QSize, Qt, QTimer
+from PyQt6.QtCore import QEventLoop, QPoint, QSize, Qt, QTimer
 from PyQt6.QtTest import QTest
 from PyQt6.QtWidgets import (
     QAbstractScrollArea,
@@ -234,6 +234,33 @@ def test_a_dialog_is_whole_on_the_screen(
     ((size, cut),) = found
     assert not cut
     assert size.boundedTo(room) == size
+
+
+@pytest.mark.parametrize("asked", ASKED.values(), ids=ASKED.keys())
+def test_a_dialog_that_is_closed_is_no_window_any_more(
+    application: QApplication, monkeypatch: pytest.MonkeyPatch, asked: Ask
+) -> None:
+    monkeypatch.setattr(dialogs, "_SHOWN_AFTER_SECONDS", 0)
+    over, loop, kept = QWidget(), QEventLoop(), list[QWidget]()
+
+    def close() -> None:
+        dialog = application.activeModalWidget()
+        if dialog is None:
+            QTimer.singleShot(10, close)
+            return
+        # as what refers to itself is kept by Python for some time
+        kept.append(dialog)
+        dialog.close()
+
+    def ask() -> None:
+        QTimer.singleShot(0, close)
+        asked(over)
+        loop.quit()
+
+    QTimer.singleShot(0, ask)
+    loop.exec()
+    application.processEvents()
+    assert kept and not set(kept) & set(application.topLevelWidgets())
 
 
 def _is_cut(part: QLabel | QPushButton) -> bool:

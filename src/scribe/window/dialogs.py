@@ -5,7 +5,6 @@ import time
 from collections.abc import Callable, Iterator, Sequence
 from concurrent.futures import Future
 from contextlib import AbstractContextManager, contextmanager
-from functools import partial
 from pathlib import Path
 from typing import TypeVar
 
@@ -83,13 +82,15 @@ _SMALLER, _LEAST_POINTS = 0.9, 7.0
 def _back_to(over: QWidget | None, dialog: QDialog | None = None) -> Iterator[None]:
     """Has the keyboard go back to a window, if there is one, also where no window manager sees to that.
 
-    The dialog over it is of no use any more, and isn't kept as a part of it.
+    The dialog over it is of no use any more, and isn't kept as a part of it, nor as a window that a
+    screen reader lists.
     """
     try:
         yield
     finally:
         if dialog is not None:
             dialog.setParent(None)  # type: ignore[call-overload]
+            dialog.deleteLater()
         if over is not None:
             over.activateWindow()
 
@@ -307,6 +308,7 @@ class _Blind(QObject):
         finally:
             application.removeEventFilter(self)
             self._held.stop()
+            self._dialog = None
 
     @property
     def _is_text(self) -> bool:
@@ -356,8 +358,13 @@ class _Blind(QObject):
         text = self._after(event) if is_of_text else None
         if text is not None and self._takes(text):
             # what is said changes the dialog, which has to be there
-            QTimer.singleShot(0, partial(self._say, dialog))
+            QTimer.singleShot(0, self._say_over)
         return text is not None
+
+    def _say_over(self) -> None:
+        """Says that nothing was answered in the dialog over what was typed, unless that is closed."""
+        if self._dialog is not None:
+            self._say(self._dialog)
 
     def _is_held(self, to: QObject, event: QEvent | None) -> bool:
         """Whether Space, which may begin a text, is held; what is pressed after it ends that."""
