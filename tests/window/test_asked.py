@@ -35,6 +35,7 @@ from scribe.window.held import Held
 import test_held
 from conftest import Open, prints, wait
 from reader import Reader
+from test_whole import prints_of
 
 _NO_ANSWER = "What is typed here is no answer. Tab goes to one, and Enter gives it."
 _ASIDE = "What was typed at the question is set aside: “{}”. Ctrl+B brings it back."
@@ -414,6 +415,90 @@ def test_a_space_is_held_no_longer_once_another_key_is_pressed(
     _at_question(press)
     answers = ("Change &all", "Ask at each &place", "&Cancel")
     assert dialogs.ask(over, "Change", "So?", answers, lambda text: None) == answer
+
+
+class _Again(QKeyEvent):
+    """Enter while it is held down, at a time. Qt doesn't tell each time that it is repeated."""
+
+    def __init__(self, kind: QEvent.Type, time: int, is_told: bool) -> None:
+        none = Qt.KeyboardModifier.NoModifier
+        super().__init__(kind, Qt.Key.Key_Return, none, "\r", is_told)
+        self._time = time
+
+    def timestamp(self) -> int:
+        """When the X server had it come up, and go down."""
+        return self._time
+
+
+def _hold_enter(dialog: QWidget) -> bool:
+    """Holds Enter down at a dialog; whether that is there still."""
+    for time_of, is_told in ((1_000, True), (1_040, False), (1_080, True)):
+        for kind in (QEvent.Type.KeyRelease, QEvent.Type.KeyPress):
+            focused = dialog.focusWidget()
+            if dialog.isVisible() and focused is not None:
+                QApplication.sendEvent(focused, _Again(kind, time_of, is_told))
+    return dialog.isVisible()
+
+
+def test_an_enter_that_is_held_down_changes_no_place_that_is_asked_about_after_it(
+    desk: Desk, others: None, monkeypatch: pytest.MonkeyPatch
+) -> None:
+    words = ["The", "That"], [True, False]
+    monkeypatch.setattr(dialogs, "fields", lambda *_: words)
+    stays = list[bool]()
+
+    def close(button: QPushButton, box: QMessageBox) -> None:
+        box.close()
+
+    def at_a_place(button: QPushButton, box: QMessageBox) -> None:
+        stays.append(_hold_enter(box))
+        if stays == [True]:
+            _at_question(at_a_place)
+            _HANDS.keyClick(box.focusWidget(), Qt.Key.Key_Return)
+        elif stays[-1]:
+            box.close()
+        else:
+            _at_question(close)
+
+    def at_all(button: QPushButton, box: QMessageBox) -> None:
+        _at_question(at_a_place)
+        for key in (Qt.Key.Key_Tab, Qt.Key.Key_Return):
+            _HANDS.keyClick(box.focusWidget(), key)
+
+    _at_question(at_all)
+    desk.act("change_all")
+    assert stays == [True, True]
+    assert prints_of(desk)[:2] == ["That Moon", "The mon is far away."]
+
+
+@pytest.mark.parametrize("is_line", [False, True])
+def test_an_enter_that_is_held_down_gives_no_answer_to_a_dialog_that_it_opened(
+    application: QApplication, is_line: bool
+) -> None:
+    over, held, stays = QWidget(), Held(), list[bool]()
+
+    def at_next() -> None:
+        dialog = application.activeModalWidget()
+        if dialog is None or dialog.focusWidget() is None:
+            QTimer.singleShot(10, at_next)
+            return
+        stays.append(_hold_enter(dialog))
+        if stays[0]:
+            _HANDS.keyClick(dialog.focusWidget(), Qt.Key.Key_Return)
+
+    def at_first(button: QPushButton, box: QMessageBox) -> None:
+        _HANDS.keyClick(button, Qt.Key.Key_Return)
+        QTimer.singleShot(0, at_next)
+
+    _at_question(at_first)
+    answers = ("&Yes", "&No")
+    assert dialogs.choice(over, "Change", "So?", answers) == 0
+    if is_line:
+        assert dialogs.text(over, "Change", "By what?", "sea") == "sea"
+    else:
+        assert dialogs.choice(over, "Change", "All?", answers) == 0
+    held.stop()
+    assert stays == [True]
 
 
 @pytest.mark.parametrize("text", ["und hier", "hallo du da", "x"])

@@ -61,6 +61,9 @@ class Held(QObject):
         # the dialog over the window as the wait began
         self._over: QWidget | None = None
         self._obeyed: QEvent | None = None
+        # the dialog over the window as Enter was pressed, which may be down still, and when it came up
+        self._entered_at: QWidget | None = None
+        self._let_go_at = 0
         # whether the window for which it is isn't shown any more
         self._is_over = False
         self._soon = QTimer(self)
@@ -117,6 +120,9 @@ class Held(QObject):
 
         What they drag isn't taken, and stays where it comes from.
         """
+        is_obeyed = event is self._obeyed
+        if isinstance(event, QKeyEvent) and not is_obeyed and self._is_held_down(event):
+            return True
         if isinstance(to, QWidget) and event is not None and _is_of_line(to):
             self._take_until_shown(event)
         is_held = self._waits or self._events or self._is_over
@@ -128,7 +134,7 @@ class Held(QObject):
         if not is_answer and kind in _OF_DRAGS and isinstance(to, QWindow):
             event.ignore()
             return True
-        if is_answer or event is self._obeyed or not self._is_by_hands(to, kind):
+        if is_answer or is_obeyed or not self._is_by_hands(to, kind):
             return False
         copy = event.clone()
         assert copy is not None
@@ -141,6 +147,24 @@ class Held(QObject):
         if kind in _OF_TEXT:
             self.changed.emit()
         return True
+
+    def _is_held_down(self, event: QKeyEvent) -> bool:
+        """Whether Enter is held down, and repeated where a dialog opened or closed since it was pressed.
+
+        It would give an answer to what nobody has read yet.
+        """
+        if event.key() not in ENTER:
+            return False
+        if event.type() == _KINDS.KeyRelease:
+            self._let_go_at = event.timestamp()
+        if event.type() != _KINDS.KeyPress:
+            return False
+        # Qt doesn't tell of each time that it is repeated: it comes up and goes down at one time
+        is_at_once = 0 < event.timestamp() == self._let_go_at
+        over = QApplication.activeModalWidget()
+        if not (event.isAutoRepeat() or is_at_once):
+            self._entered_at = over
+        return over is not self._entered_at
 
     def _take_until_shown(self, event: QEvent) -> None:
         """Takes what came until a dialog is shown: Qt drops what comes beneath it after that."""
