@@ -46,6 +46,16 @@ def renamed(text: str, prefixes: dict[str, str]) -> str:
     return text.replace("xmlns:y=", f'xmlns="{_W}" xmlns:y=')
 
 
+def test_a_line_that_ends_by_hand_has_none_of_its_words_missing_for_those_of_a_box(
+    tmp_path: Path,
+) -> None:
+    body = paragraph(run("One"), text_box("the moon"))
+    body += paragraph(run("See"), "<w:r><w:br/></w:r>", run("the moon"))
+    found = read_manuscript(docx(tmp_path / "lines.docx", body))
+    assert found.texts == ["One", "See", "the moon"]
+    assert found.missing == (Missing("the moon", "", ""),)
+
+
 @pytest.mark.parametrize("prefixes", PREFIXES, ids=["other", "none", "swapped"])
 def test_a_document_is_read_whichever_prefixes_its_parts_have(
     tmp_path: Path, prefixes: dict[str, str]

@@ -361,6 +361,16 @@ def test_titles_of_tables_stand_where_the_document_has_them(
     assert found.missing == ()
 
 
+def test_a_line_that_ends_by_hand_in_odt_has_none_of_its_words_missing_for_others(
+    tmp_path: Path,
+) -> None:
+    contents = "<text:table-of-content><text:index-body><text:p>the moon</text:p></text:index-body></text:table-of-content>"
+    text = f"{contents}<text:p>See<text:line-break/>the moon</text:p>"
+    found = read_manuscript(odt(tmp_path / "lines.odt", text))
+    assert found.texts == ["See", "the moon"]
+    assert found.missing == (Missing("the moon", "", ""),)
+
+
 def test_titles_of_tables_stand_where_a_text_in_odt_has_them(tmp_path: Path) -> None:
     cell = "<table:table-cell><text:p>{}</text:p></table:table-cell>"
     rows = f"<table:table-row>{cell.format('a')}{cell.format('b')}</table:table-row>"

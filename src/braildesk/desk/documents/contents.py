@@ -116,8 +116,9 @@ _DESCRIPTIONS = {
     f"{_V}textpath": ("string",),
 }
 _OFF = ("0", "false", "off")
-#: What parts words: the number of a note is typed where it stands.
-_PARTING = ("tab", "ptab", "br", "cr", "footnoteReference", "endnoteReference")
+#: What parts words: the number of a note is typed where it stands; and what ends a line.
+_PARTING = ("tab", "ptab", "footnoteReference", "endnoteReference")
+_LINE_ENDS = ("br", "cr")
 _FALLBACK, _CHOICE = (
     f"{{http://schemas.openxmlformats.org/markup-compatibility/2006}}{name}"
     for name in ("Fallback", "Choice")
@@ -133,9 +134,8 @@ _EMBEDDED = re.compile(
     r"word/(embeddings|afchunk)[^/]*(/.+|\..+)|word/.*\.(mht|altchunk)"
 )
 _DELETED = (f"{_W}del", f"{_W}moveFrom")
-_ODT_PARTING = tuple(
-    f"{_TEXT}{name}" for name in ("s", "tab", "line-break", "note-citation")
-)
+_ODT_PARTING = tuple(f"{_TEXT}{name}" for name in ("s", "tab", "note-citation"))
+_ODT_LINE_END = f"{_TEXT}line-break"
 #: What isn't one word with what stands before and after it: readings of characters, and what pictures have.
 _ODT_APART = (
     *(f"{_TEXT}ruby-{name}" for name in ("base", "text")),
@@ -242,6 +242,11 @@ def contents_of(data: bytes, kind: ManuscriptKind) -> Contents:
         with unpacked(data) as container:
             _READERS[kind](container, found)
     return found
+
+
+def lines_of(passages: Iterable[str]) -> list[str]:
+    """The lines of some passages, of which each that ends by hand is a paragraph of a book."""
+    return [line for passage in passages for line in passage.split("\n")]
 
 
 def notes_of(text: str, keys: Collection[str]) -> list[str]:
@@ -574,6 +579,8 @@ def _runs(element: Element, inner: list[Element]) -> Iterator[str]:
             yield child.text or ""
         elif tag in _PARTING:
             yield " "
+        elif tag in _LINE_ENDS:
+            yield "\n"
         elif tag == "ddList":
             yield _chosen(child)
         elif tag == "noBreakHyphen":
@@ -650,6 +657,8 @@ def _odt_runs(element: Element, inner: list[Element]) -> Iterator[str]:
             inner.append(child)
         elif child.tag in _ODT_PARTING or _is_number_again(child):
             yield " "
+        elif child.tag == _ODT_LINE_END:
+            yield "\n"
         elif child.tag not in (_ANNOTATION, f"{_OFFICE}binary-data"):
             if child.tag == _ODT_HIDDEN and not child.text:
                 yield f" {child.get(f'{_TEXT}string-value', '')} "

@@ -57,6 +57,8 @@ from braildesk.desk.manuscript import UnreadableText
 
 #: The kinds that are containers.
 _PACKED = (ManuscriptKind.DOCX, ManuscriptKind.ODT, ManuscriptKind.EPUB)
+#: The kinds in whose passages an LF is a line that ends by hand.
+_WITH_LINES = (ManuscriptKind.DOCX, ManuscriptKind.ODT)
 #: The kinds whose title, and what else is said about the whole, is a part of the print.
 _WITH_FRONT = (ManuscriptKind.DOCX, ManuscriptKind.ODT, ManuscriptKind.MARKDOWN)
 #: How many characters are shown of a paragraph that is parted.
@@ -189,7 +191,7 @@ def _read(
         # of ODT, pandoc takes those alone for titles
         has_titles_below=kind is ManuscriptKind.ODT,
     )
-    passages = own.passages
+    passages = _compared(own, kind)
     if kind is ManuscriptKind.MARKDOWN:
         text = data.decode()
         keys = left_out | contents.keys_in_notes(text)
@@ -204,6 +206,12 @@ def _read(
     losses = (*found.losses, *own.numbers, *_too_long(found.parts), *own.losses)
     losses += tuple(unmarked)
     return Manuscript(kind, parts, losses, tuple(missing))
+
+
+def _compared(own: Contents, kind: ManuscriptKind) -> list[str]:
+    """The passages of a file that are looked for among the paragraphs, with each line by itself."""
+    is_lined = kind in _WITH_LINES
+    return contents.lines_of(own.passages) if is_lined else own.passages
 
 
 def _readable(data: bytes, kind: ManuscriptKind) -> tuple[bytes, list[Loss]]:
