@@ -46,6 +46,42 @@ def renamed(text: str, prefixes: dict[str, str]) -> str:
     return text.replace("xmlns:y=", f'xmlns="{_W}" xmlns:y=')
 
 
+_A = "http://schemas.openxmlformats.org/drawingml/2006/main"
+_C = "http://schemas.openxmlformats.org/drawingml/2006/chart"
+
+
+def cached(what: str, *names: str) -> str:
+    """What a chart keeps of the cells of its sheet."""
+    points = "".join(f"<c:pt><c:v>{name}</c:v></c:pt>" for name in names)
+    return f"<c:{what}Ref><c:{what}Cache>{points}</c:{what}Cache></c:{what}Ref>"
+
+
+def test_words_of_charts_are_missing_each_once(tmp_path: Path) -> None:
+    path = docx(tmp_path / "chart.docx", paragraph(run("One")))
+    categories = f"<c:cat>{cached('str', 'Spring tide', 'Neap tide')}</c:cat>"
+    series = "".join(
+        f"<c:ser><c:tx>{cached('str', name)}</c:tx>{categories}<c:val>{cached('num', '7')}</c:val></c:ser>"
+        for name in ("Moon", "Sun")
+    )
+    series += "<c:ser><c:tx><c:v>Planet</c:v></c:tx></c:ser>"
+    title = "<c:title><c:tx><c:rich><a:p><a:r><a:t>Tides</a:t></a:r></a:p></c:rich></c:tx></c:title>"
+    with zipfile.ZipFile(path, "a") as container:
+        chart = f'<c:chartSpace xmlns:c="{_C}" xmlns:a="{_A}">{title}{series}</c:chartSpace>'
+        container.writestr("word/charts/chart1.xml", chart)
+    found = read_manuscript(path)
+    words = [each.words for each in found.missing]
+    assert words == ["Tides", "Moon", "Sun", "Planet", "Spring tide", "Neap tide"]
+
+
+def test_words_of_drawings_that_are_in_no_text_box_are_missing(tmp_path: Path) -> None:
+    shape = f'<a:txSp xmlns:a="{_A}"><a:txBody><a:p><a:r><a:t>High </a:t></a:r><a:r><a:t>water</a:t></a:r></a:p></a:txBody></a:txSp>'
+    drawing = f"<w:r><w:drawing><wp:inline>{shape}</wp:inline></w:drawing></w:r>"
+    body = paragraph(run("One"), drawing)
+    found = read_manuscript(docx(tmp_path / "drawing.docx", body))
+    assert found.texts == ["One"]
+    assert found.missing == (Missing("High water", "", ""),)
+
+
 def test_a_line_that_ends_by_hand_has_none_of_its_words_missing_for_those_of_a_box(
     tmp_path: Path,
 ) -> None:

@@ -104,8 +104,13 @@ _NEIGHBOURS = 4
 
 _W = "{http://schemas.openxmlformats.org/wordprocessingml/2006/main}"
 _A = "{http://schemas.openxmlformats.org/drawingml/2006/main}"
+_C = "{http://schemas.openxmlformats.org/drawingml/2006/chart}"
 _R = "{http://schemas.openxmlformats.org/officeDocument/2006/relationships}"
 _V = "{urn:schemas-microsoft-com:vml}"
+#: What has names in a chart, beside its texts.
+_CHART_NAMES = tuple(
+    f"{_C}{name}" for name in ("tx", "strCache", "multiLvlStrCache", "strLit")
+)
 #: The elements of a drawing that have words beside their text, and the names by which they do.
 _DESCRIPTIONS = {
     "{http://schemas.openxmlformats.org/drawingml/2006/wordprocessingDrawing}docPr": (
@@ -428,19 +433,20 @@ def _of_docx(container: zipfile.ZipFile, found: Contents) -> None:
         if _DOCX_TEXTS.fullmatch(name):
             root = _root(container, name)
             found.passages += _paragraphs(root)
+            found.passages += _drawn(root)
             found.passages += filter(None, map(shown_of_code, _codes(root)))
             _set_aside(root, hidden, found)
             found.losses += map(partial(Loss, LossKind.PICTURE, ""), _linked(root))
             for file in _other_files(container, name, root):
                 found.lose(LossKind.OTHER_FILE, file)
         elif _DOCX_EDGES.fullmatch(name):
-            for passage in _paragraphs(_root(container, name)):
+            root = _root(container, name)
+            for passage in (*_paragraphs(root), *_drawn(root)):
                 found.add_edge(passage)
         elif _DOCX_DRAWINGS.fullmatch(name):
-            for each in _root(container, name).iter(f"{_A}p"):
-                found.passages.append(
-                    "".join(run.text or "" for run in each.iter(f"{_A}t"))
-                )
+            root = _root(container, name)
+            found.passages += _drawn(root)
+            found.passages += _named_in_chart(root)
         elif name == _DOCX_COMMENTS:
             for comment in _root(container, name).iter(f"{_W}comment"):
                 found.lose(LossKind.COMMENT, "\n".join(_paragraphs(comment)))
@@ -560,6 +566,25 @@ def _codes(root: Element) -> Iterator[str]:
                 if codes[nth] is None or nth + 1 < len(codes) and not begun[nth]:
                     break
                 codes[nth] = None
+
+
+def _drawn(root: Element) -> Iterator[str]:
+    """The texts of drawings that are no text boxes, as those of a chart or of a canvas that is locked."""
+    for each in root.iter(f"{_A}p"):
+        text = "".join(run.text or "" for run in each.iter(f"{_A}t"))
+        if text.strip():
+            yield text
+
+
+def _named_in_chart(root: Element) -> Iterator[str]:
+    """The names of the series of a chart and of what they count, each once: all series have the same."""
+    names = (
+        each.text or ""
+        for tag in _CHART_NAMES
+        for part in root.iter(tag)
+        for each in part.iter(f"{_C}v")
+    )
+    yield from dict.fromkeys(filter(str.strip, names))
 
 
 def _is_drop_cap(paragraph: Element) -> bool:
