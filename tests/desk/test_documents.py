@@ -410,6 +410,15 @@ def test_the_title_of_a_picture_in_docx_is_missing_unless_its_description_is_the
     assert missing == {"One": "A moon", "Two": "A moon Far off", "Three": "A moon"}
 
 
+def test_the_description_of_a_picture_in_odt_that_stands_in_no_paragraph_is_missing(
+    tmp_path: Path,
+) -> None:
+    picture = '<draw:frame text:anchor-type="page"><draw:image/><svg:title>Front</svg:title><svg:desc>A crater</svg:desc></draw:frame>'
+    found = read_manuscript(odt(tmp_path / "a.odt", f"{picture}<text:p>One</text:p>"))
+    assert found.texts == ["One"]
+    assert [each.words for each in found.missing] == ["Front", "A crater"]
+
+
 def test_a_picture_in_docx_that_another_file_has_is_noted_unless_it_is_described(
     tmp_path: Path,
 ) -> None:

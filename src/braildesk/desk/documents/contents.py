@@ -141,10 +141,11 @@ _EMBEDDED = re.compile(
 _DELETED = (f"{_W}del", f"{_W}moveFrom")
 _ODT_PARTING = tuple(f"{_TEXT}{name}" for name in ("s", "tab", "note-citation"))
 _ODT_LINE_END = f"{_TEXT}line-break"
+_ODT_DESCRIPTIONS = tuple(f"{_SVG}{name}" for name in ("title", "desc"))
 #: What isn't one word with what stands before and after it: readings of characters, and what pictures have.
 _ODT_APART = (
     *(f"{_TEXT}ruby-{name}" for name in ("base", "text")),
-    *(f"{_SVG}{name}" for name in ("title", "desc")),
+    *_ODT_DESCRIPTIONS,
 )
 _ODT_DELETED = f"{_TEXT}deletion"
 #: Words that are shown where something holds, else an attribute alone has them.
@@ -668,6 +669,8 @@ def _odt_paragraphs(element: Element, is_whole: bool = False) -> Iterator[str]:
     for child in element:
         if child.tag == f"{_TEXT}span":
             yield "".join(_odt_runs(child, []))
+        elif child.tag in _ODT_DESCRIPTIONS:
+            yield child.text or ""
         else:
             yield from _odt_paragraphs(child)
         # no program shows what stands between paragraphs
