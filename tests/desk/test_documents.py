@@ -461,6 +461,13 @@ def test_words_that_are_there_as_often_are_not_missing() -> None:
     assert missing(["soft\u00adhyphen"], ["softhyphen"]) == []
 
 
+def test_a_passage_that_is_missing_takes_no_word_from_another() -> None:
+    assert missing(["In a box", "inline See a moon"], ["See a moon"]) == [
+        Missing("In a box", "", ""),
+        Missing("inline", "", "See a moon"),
+    ]
+
+
 def test_a_word_that_is_missing_is_shown_as_it_stands_in_the_file() -> None:
     assert missing(["by xhtml11 and word1"], ["by and word 1"]) == [
         Missing("xhtml11", "by", "and word 1")

@@ -18,7 +18,7 @@ from collections.abc import (
 from contextlib import suppress
 from dataclasses import dataclass, field
 from functools import partial
-from itertools import islice
+from itertools import groupby, islice
 from pathlib import PurePosixPath
 from xml.etree.ElementTree import Element, ParseError
 
@@ -316,8 +316,8 @@ def _folded(key: str) -> str:
 def missing(passages: Iterable[str], texts: Iterable[str]) -> list[Missing]:
     """The words of the passages of a file that the texts that were made of it don't have.
 
-    A passage that stands whole in what is left of the texts is there, and that part is used up. The
-    others are compared word by word with what is left then.
+    A passage that stands whole in what is left of the texts is there, and that part is used up. Of the
+    others, runs of words are used up so, and what is left then is compared word by word.
     """
     left = Counter(tuple(words_of(text)) for text in texts)
     others = []
@@ -330,9 +330,14 @@ def missing(passages: Iterable[str], texts: Iterable[str]) -> list[Missing]:
             left[words] -= 1
     rest = _Rest(left)
     unseen = [forms for forms in others if not any(map(rest.take, forms))]
-    there = Counter(word for word in rest.words if word is not None)
+    there = rest.counts()
+    likest = [_likest(forms, there) for forms in unseen]
+    taken = _taken_in_runs(likest, rest)
+    there = rest.counts()
     return [
-        found for forms in unseen for found in _missing(_likest(forms, there), there)
+        found
+        for words, places in zip(likest, taken)
+        for found in _missing(words, places, there)
     ]
 
 
@@ -362,6 +367,10 @@ class _Rest:
             for count in (1, 2):
                 pair = tuple(self.words[place : place + count])
                 self._places.setdefault(pair, deque()).append(place)
+
+    def counts(self) -> Counter[str]:
+        """How often each word is left."""
+        return Counter(word for word in self.words if word is not None)
 
     def take(self, words: Sequence[str]) -> bool:
         """Uses up words that stand there one after another, if they do."""
@@ -401,12 +410,33 @@ def _parted(words: Iterable[str], there: Counter[str]) -> list[str]:
     return parted
 
 
-def _missing(words: Sequence[str], there: Counter[str]) -> Iterator[Missing]:
-    """The runs of words that aren't there any more, each of which is taken away once."""
+def _taken_in_runs(passages: Sequence[Sequence[str]], rest: _Rest) -> list[set[int]]:
+    """The places in each passage of the runs of words that stand in the rest, of which the longest are used up first.
+
+    Else a passage that is missing would take words from another, which would be said to lack them.
+    """
+    there = rest.counts()
+    runs: list[tuple[int, int, int]] = []
+    for number, words in enumerate(passages):
+        for is_there, run in groupby(range(len(words)), lambda n: there[words[n]] > 0):
+            first, *others = run
+            if is_there:
+                runs.append((number, first, first + 1 + len(others)))
+    taken: list[set[int]] = [set() for _ in passages]
+    for number, start, stop in sorted(runs, key=lambda run: run[1] - run[2]):
+        if rest.take(passages[number][start:stop]):
+            taken[number].update(range(start, stop))
+    return taken
+
+
+def _missing(
+    words: Sequence[str], taken: Collection[int], there: Counter[str]
+) -> Iterator[Missing]:
+    """The runs of words that aren't there any more, each of which is taken away once, but for those at some places."""
     start = 0
     while start < len(words):
         stop = start
-        while stop < len(words) and there[words[stop]] <= 0:
+        while stop < len(words) and stop not in taken and there[words[stop]] <= 0:
             stop += 1
         if stop > start:
             yield Missing(
@@ -414,7 +444,7 @@ def _missing(words: Sequence[str], there: Counter[str]) -> Iterator[Missing]:
                 " ".join(words[max(start - _NEIGHBOURS, 0) : start]),
                 " ".join(words[stop : stop + _NEIGHBOURS]),
             )
-        if stop < len(words):
+        if stop < len(words) and stop not in taken:
             there[words[stop]] -= 1
         start = stop + 1
 
