@@ -223,6 +223,12 @@ def test_what_is_said_of_print_of_markdown_by_a_word_is_not_missing(text: str) -
     assert not read(text).missing
 
 
+def test_a_word_of_markdown_that_signs_part_in_code_alone_is_not_missing() -> None:
+    found = read("```\nno `Buffer`s\n```\n\nTwo `Buffer`s, *Buffers*.\n")
+    assert found.texts == ["no `Buffer`s", "Two Buffers, Buffers."]
+    assert found.missing == ()
+
+
 def test_a_note_to_which_several_numbers_lead_is_typed_once() -> None:
     found = read(
         "One[^a], two[^b] and^[Ibid.] again[^a].\n\nThree[^a]^[Ibid.][^c][^d].\n\n"

@@ -5,6 +5,7 @@ block. Only keys and the numbers of items don't, and signs may part a word or ma
 """
 
 import re
+from collections import Counter
 from collections.abc import Iterable, Iterator, Mapping, Sequence
 from html import unescape
 from itertools import pairwise
@@ -52,7 +53,6 @@ _VERBATIM = frozenset("CodeBlock RawBlock RawInline Math".split())
 
 def lines_of(text: str, tree: list[str]) -> Iterator[str]:
     """The words of each line of a text, parted as the texts of its tree have them."""
-    known = {word for each in tree for word in words_of(each)}
     keys = {_folded(found[2]) for found in _LINK_KEY.finditer(text) if found[2]}
     keys.update(map(_folded, _headings(text.split("\n"))))
     uses = {_folded(found[2]) for found in _USE.finditer(text)}
@@ -69,12 +69,26 @@ def lines_of(text: str, tree: list[str]) -> Iterator[str]:
 
     lines = _LINK_KEY.sub(without_key, text).split("\n")
     front = front_of(lines)
+    parts: list[list[str]] = []
     for line in (*map(with_usual_switch, lines[:front]), *lines[front:]):
         line = _LABELLED.sub(without_label, _NUMBERS.sub("", line, count=1))
         line = _NOTE_KEY.sub(" ", unescape(line))
         line = _without_escapes(line)
-        parts = _PARTING.sub(_SEAM, _plain(line)).split()
-        yield " ".join(_whole(each, known) for each in parts)
+        parts.append(_PARTING.sub(_SEAM, _plain(line)).split())
+    left = _left_for_parts(parts, tree)
+    return (" ".join(_whole(each, left) for each in line) for line in parts)
+
+
+def _left_for_parts(
+    lines: Iterable[Sequence[str]], tree: Iterable[str]
+) -> Counter[str]:
+    """How often the tree has each word, but for those of the lines that no sign within them may part."""
+    left = Counter(word for each in tree for word in words_of(each))
+    for part in (part for line in lines for part in line):
+        joined, parted = _forms(part)
+        if joined == parted:
+            left.subtract(joined)
+    return left
 
 
 def _headings(lines: Sequence[str]) -> Iterator[str]:
@@ -91,10 +105,20 @@ def _without_escapes(text: str) -> str:
     return _ESCAPE.sub(lambda found: found[1] or " ", text)
 
 
-def _whole(part: str, known: set[str]) -> str:
-    """A part of a line as one word if there is one, else parted where signs stand."""
-    joined, parted = part.replace(_SEAM, ""), part.replace(_SEAM, " ")
-    return joined if known.issuperset(words_of(joined)) else parted
+def _forms(part: str) -> tuple[list[str], list[str]]:
+    """The words of a part of a line if no sign parts them, and if all do."""
+    return words_of(part.replace(_SEAM, "")), words_of(part.replace(_SEAM, " "))
+
+
+def _whole(part: str, left: Counter[str]) -> str:
+    """A part of a line as one word if one is left, which is used up then, else parted where signs stand."""
+    joined, parted = _forms(part)
+    if joined == parted:
+        return part.replace(_SEAM, "")
+    if any(left[word] <= 0 for word in joined):
+        return part.replace(_SEAM, " ")
+    left.subtract(joined)
+    return part.replace(_SEAM, "")
 
 
 def texts_of(tree: Node, text: str) -> list[str]:
