@@ -296,8 +296,29 @@ def test_characters_of_a_font_of_symbols_are_symbols(tmp_path: Path) -> None:
     found = read_manuscript(docx(tmp_path / "a.docx", body))
     assert found.texts == ["One \u03b1\u03b2 \u2265 two three a"]
     assert found.missing == (
-        Missing("Wingdings_F0FC Wingdings_F078", "One two", "three a"),
+        Missing("Wingdings_F0FC Wingdings_F078", "One \u03b1\u03b2 two", "three a"),
     )
+
+
+def test_a_letter_of_the_font_symbol_is_one_word_with_what_stands_beside_it(
+    tmp_path: Path,
+) -> None:
+    def lettered(text: str) -> str:
+        return run(text, '<w:rFonts w:ascii="Symbol" w:hAnsi="Symbol"/>')
+
+    body = paragraph(
+        run("The "),
+        symbol("Symbol", "F061"),
+        run("-particle, 5"),
+        lettered("\uf06d"),
+        run("m, x"),
+        symbol("Symbol", "f032"),
+        run(" and R"),
+        lettered("W"),
+    )
+    found = read_manuscript(docx(tmp_path / "a.docx", body))
+    assert found.texts == ["The \u03b1-particle, 5\u03bcm, x2 and R\u03a9"]
+    assert found.missing == ()
 
 
 def ruby(base: str, reading: str) -> str:

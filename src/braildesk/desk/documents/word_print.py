@@ -82,6 +82,21 @@ _SYMBOLIC = re.compile(
 )
 #: The characters that do, whose last two digits say which symbol they show.
 _PLACES = re.compile("[ -\xff\uf020-\uf0ff]+")
+#: The font of which pandoc knows the symbols, and those that are letters or digits, by its characters: pandoc
+#: joins them with what stands beside them, as print does.
+_KNOWN_FONT = "Symbol"
+_LETTERS = {
+    ord(first) + place: letter
+    for first, letters in (
+        ("0", "0123456789"),
+        ("A", "ΑΒΧ"),
+        ("E", "ΕΦΓΗΙϑΚΛΜΝΟΠΘΡΣΤΥςΩΞΨΖ"),
+        ("a", "αβχδεφγηιϕκλμνοπθρστυϖωξψζ"),
+    )
+    for place, letter in enumerate(letters)
+}
+#: How Word names a character of such a font.
+_NUMBER = re.compile("[fF0]0([0-9a-fA-F]{2})")
 #: How many characters are shown of a paragraph.
 _SHOWN = 60
 
@@ -98,7 +113,7 @@ class _Style:
 def texts_ahead(root: Element) -> dict[int, str]:
     """What stands in XML ahead of elements of a part, by their places in it; and see `replaced`."""
     found: dict[int, str] = {}
-    symbols, grids = _symbols(root), dict(_grids(root))
+    symbols, grids = _letters(root) | _symbols(root), dict(_grids(root))
     emphasis = emphasis_ahead(root)
     lettered = dict(_lettered(root))
     for place, element in enumerate(root.iter()):
@@ -184,7 +199,7 @@ def _known(properties: Element) -> Iterator[str]:
 
 def replaced(root: Element) -> frozenset[int]:
     """The places of elements that are left out, since a text ahead of them is all that they have."""
-    symbols = {*_symbols(root), *dict(_lettered(root))}
+    symbols = {*_symbols(root), *_letters(root), *dict(_lettered(root))}
     return frozenset(
         place
         for place, element in enumerate(root.iter())
@@ -330,6 +345,18 @@ def _symbols(root: Element) -> dict[int, str]:
     return found
 
 
+def _letters(root: Element) -> dict[int, str]:
+    """The letters and digits that symbols of a font are, by the identities of these."""
+    found = {}
+    for symbol in root.iter(f"{_W}sym"):
+        number = _NUMBER.fullmatch(symbol.get(f"{_W}char", ""))
+        if number is None or symbol.get(f"{_W}font") != _KNOWN_FONT:
+            continue
+        if letter := _LETTERS.get(int(number[1], 16)):
+            found[id(symbol)] = letter
+    return found
+
+
 def _lettered(root: Element) -> Iterator[tuple[int, str]]:
     """The fonts of texts whose characters stand for symbols, by the identities of these."""
     for run in root.iter(_RUN):
@@ -347,6 +374,8 @@ def _symbol(character: str, font: str) -> str:
     place = ord(character) & 0xFF
     if place == ord(" "):
         return _text(" ")
+    if font == _KNOWN_FONT and place in _LETTERS:
+        return _text(_LETTERS[place])
     return f'<w:sym w:font="{font}" w:char="F0{place:02X}"/>'
 
 
