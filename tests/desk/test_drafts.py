@@ -37,6 +37,7 @@ FORGED = {
     "cells": None,
     "words": None,
     "version": 7,
+    "place": None,
 }
 
 
@@ -1023,6 +1024,7 @@ def test_only_values_of_the_right_types_are_read_as_a_draft(
     assert isinstance(found.aim, Aim)
     assert found.paragraph is None or type(found.paragraph) is int
     assert found.version is None or type(found.version) is int
+    assert found.place is None or type(found.place) is int and found.place >= 0
     for text in (found.before, found.text, found.table or ""):
         text.encode()
     for places in (found.cells, found.words):

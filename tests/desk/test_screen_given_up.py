@@ -53,6 +53,39 @@ def test_what_escape_gives_up_comes_back_by_a_key(moon: Path, sit: Sit) -> None:
     assert sat.state.message == "No text is set aside in this book."
 
 
+@pytest.mark.parametrize("keys", [["o"], ["down", "enter", "home"], ["m"]])
+def test_a_text_is_typed_further_where_its_cursor_was(
+    moon: Path, sit: Sit, keys: list[str]
+) -> None:
+    sat = sit(moon)
+    sat.press(*keys, *"It rse. ", *["left"] * 4, "escape", "U", "y", "o")
+    typed = sat.state.typed
+    assert typed and typed.text.startswith("It rose. ")
+    sat.state = sat.desk.save_draft(sat.state)
+    # also where it was moved and nothing was typed since
+    sat.press("home")
+    sat.state = sat.desk.save_draft(sat.state)
+    sat.desk.close()
+    sat = sit(moon)
+    sat.press("y", *"Oh, ")
+    typed = sat.state.typed
+    assert typed and typed.text.startswith("Oh, It rose. ")
+
+
+def test_lines_are_typed_further_at_their_end_wherever_the_cursor_was(
+    moon: Path, sit: Sit
+) -> None:
+    its = Draft(Aim.AFTER, 1, "en", "", "It rose.", None, 7, place=3)
+    drafts = Drafts(moon)
+    drafts.save(its)
+    aside = Draft(Aim.AFTER, 1, "en", "", "It set.")
+    drafts.keep_unread(Unread("It shone.", aside))
+    sat = sit(moon)
+    sat.press("y", "n", "!")
+    typed = sat.state.typed
+    assert typed and typed.text == "It rose. It shone.!"
+
+
 @NEEDS_ROOT
 def test_of_a_folder_of_another_user_it_is_said_once_that_it_can_not_be_read(
     moon: Path, sit: Sit, state_home: Path

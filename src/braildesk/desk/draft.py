@@ -34,7 +34,8 @@ class Draft(Value):
     Lines that were pasted, and may become paragraphs, are parted by LF. The cells are those of the
     mark whose note was typed, and the words those of it in that print, if they are known. The version
     is that of the book at that time, if it is known. When it was given up or left for later, in
-    milliseconds, is for the order of such texts.
+    milliseconds, is for the order of such texts. The place is that before which the next character
+    was to go, if it is known.
     """
 
     aim: Aim
@@ -46,6 +47,7 @@ class Draft(Value):
     version: int | None = None
     words: Span | None = None
     left: int | None = field(default=None, compare=False)
+    place: int | None = field(default=None, compare=False)
 
     @property
     def joined(self) -> str:
@@ -86,7 +88,7 @@ class Draft(Value):
         if not rest:
             return None
         number = self.paragraph if self.aim is Aim.EDIT else newest
-        return replace(self, aim=Aim.AFTER, paragraph=number, text=rest)
+        return replace(self, aim=Aim.AFTER, paragraph=number, text=rest, place=None)
 
     def words_in(self, now: str) -> Span | None:
         """Where the words that it is a note for stand in a print by now; none if nobody can tell.
@@ -120,6 +122,7 @@ class Draft(Value):
         return {
             **({"words": words} if has_words else {}),
             **({"left": self.left} if self.left is not None else {}),
+            **({"place": self.place} if self.place is not None else {}),
             "purpose": self.aim.name,
             "paragraph": self.paragraph,
             "table": self.table,
@@ -177,6 +180,7 @@ def draft_in(kept: Record) -> Draft:
         kept.number_or_none("version"),
         _span(kept, "words"),
         kept.number_or_none("left"),
+        kept.number_or_none("place"),
     )
 
 

@@ -501,7 +501,9 @@ def draft_of(state: State) -> Draft | None:
     cells = state.chosen_cells if typed.purpose is Purpose.NOTE else None
     aim = Aim[typed.purpose.name]
     its = (aim, number, state.table, before, text, cells, state.version)
-    return Draft(*its, typed.words)
+    # of lines nobody knows in which of them it would be
+    place = None if pasted else typed.place
+    return Draft(*its, typed.words, place=place)
 
 
 def lines_typed(state: State) -> tuple[str, ...]:
@@ -553,5 +555,8 @@ def draft_of_pasted(state: State, text: str) -> Draft:
 
 
 def field_of(draft: Draft) -> Field:
-    """The text of a draft as it is typed further."""
-    return Field(Purpose[draft.aim.name], draft.text, len(draft.text))
+    """The text of a draft as it is typed further, from the place where it was left if that is known."""
+    text = draft.text
+    is_known = draft.place is not None and "\n" not in text
+    place = min(draft.place or 0, len(text)) if is_known else len(text)
+    return Field(Purpose[draft.aim.name], text, place)

@@ -296,8 +296,9 @@ class Unsent:
     def keep(self, typed: Draft | None) -> None:
         """Has what is typed wait, or what was left for later, or nothing; may raise `NotKept`."""
         self._keep_here()
-        wanted = typed or self._next()
-        if wanted != self.waiting:
+        wanted, its = typed or self._next(), self.waiting
+        is_moved = wanted and its and wanted.place != its.place
+        if wanted != its or is_moved:
             self._have_wait(wanted)
         # after that: one that waits by now is among them until it does
         self._keep_later(each for each in self._later if each != wanted)
