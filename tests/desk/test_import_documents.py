@@ -22,6 +22,8 @@ from braildesk.desk.replacements import Replacer
 
 from handmade import deleted, docx, note, paragraph, run, symbol, table, text_box
 from scribe.cli import run_words
+from scribe.screen.desk import Desk
+from scribe.screen.state import Size
 from scribe.words.console import Console
 from scribe.words.status import Interrupted
 from sitting import Sit
@@ -609,6 +611,36 @@ def test_a_document_of_which_nothing_is_noted_goes_on_by_its_paragraphs(
         " volume do that.\n"
     )
     assert parts(book) == [*PARTS[:7], ("The end", "h")]
+
+
+class Followed(StringIO):
+    """Standard error that a person follows."""
+
+    def isatty(self) -> bool:
+        return True
+
+
+def test_that_a_document_is_read_again_is_said_before_it_is_read(book: Path) -> None:
+    note = begun(book)
+    said = (
+        f"{note.text} is read again, to see how much of it is in the book. Please wait."
+    )
+    Drafts(book).begin_import(note)
+    with Session(book) as session:
+        session.add_paragraph("end", "en", PARTS[0][0])
+    cut = "The import of moon.md was cut short: 1 of its 8 paragraphs is in the book."
+    errors = Followed()
+    console = Console(BytesIO(), StringIO(), errors)
+    assert run_words(["show", str(book)], console) == 0
+    assert errors.getvalue().splitlines()[:2] == [said, cut]
+    assert ran("show", book).said.startswith(cut)
+    desk, told = Desk(book), list[str]()
+    try:
+        state = desk.first_state(Size(80, 24), None, False, told.append)
+    finally:
+        desk.close()
+    assert told == [said]
+    assert state.question and state.question.sentence.startswith(cut)
 
 
 def begun(book: Path) -> ImportNote:

@@ -11,8 +11,11 @@ import pytest
 import braildesk
 from braildesk import Session
 from braildesk.desk.change_note import Became, ChangeNote, NotedPlace
+from braildesk.desk.documents.kinds import ManuscriptKind
+from braildesk.desk.documents.options import ReadingOptions
 from braildesk.desk.draft import Aim, Draft
 from braildesk.desk.drafts import Drafts
+from braildesk.desk.import_note import How, ImportNote
 
 from scribe.screen.arrivals import UNREAD, Arrivals, Lull, ToBeRead
 from scribe.screen.keyboard import Keyboard, Pasted, Stroke
@@ -249,6 +252,45 @@ def test_a_line_before_the_screen_is_there_is_kept_and_not_said_to_be_pasted(
     terminal = pressed_before(moon, at, "strike bits.\r")
     terminal.wait("Keys that come all at once are taken as a text")
     assert [each.text for each in Drafts(moon).given_up()] == ["strike bits."]
+
+
+def cut_short(book: Path) -> None:
+    """Has an import of a page into a book be cut short, whose text is another one by now."""
+    page = book.with_name("page.html")
+    page.write_text("<p>One.</p>")
+    how = How(ReadingOptions(ManuscriptKind.HTML))
+    its = ImportNote(str(page), "0" * 64, False, 1, 1, "en", "end", 1, 0, how)
+    Drafts(book).begin_import(its)
+
+
+@pytest.mark.parametrize("keys", ["s", "\x1b[1;3B", "s\x1b[1;3Bs"])
+def test_keys_that_were_pressed_while_the_page_of_an_import_was_read_again_do_nothing(
+    moon: Path, at: Open, keys: str
+) -> None:
+    cut_short(moon)
+    terminal = pressed_before(moon, at, keys)
+    terminal.wait("The import of page.html was cut short")
+    if keys[0] == "s":
+        terminal.wait("That key came before this could be seen, and did nothing.")
+    terminal.keys("v")
+    terminal.wait("kept: paragraph 1 begins a volume")
+    terminal.keys("q")
+    assert terminal.ended() == 0
+    with Session(moon) as session:
+        assert session.version() == 8
+
+
+def test_a_text_that_was_typed_while_the_page_of_an_import_was_read_again_is_kept(
+    moon: Path, at: Open
+) -> None:
+    cut_short(moon)
+    terminal = pressed_before(moon, at, "so\r")
+    terminal.wait("Keys that come all at once are taken as a text")
+    assert [each.text for each in Drafts(moon).given_up()] == ["so"]
+    terminal.keys("q")
+    assert terminal.ended() == 0
+    with Session(moon) as session:
+        assert session.version() == 7
 
 
 def test_a_text_whose_first_letter_answers_no_offer_is_kept_from_that_letter_on(

@@ -1,7 +1,7 @@
 """Earlier imports of a text into a book: what is noted of them, and what a person has to decide."""
 
 import os
-from collections.abc import Sequence
+from collections.abc import Callable, Sequence
 from enum import Enum, auto
 from pathlib import Path
 
@@ -83,16 +83,23 @@ def leave(book: Path, path: Path) -> None:
 
 
 def to_go_on(
-    drafts: Drafts, session: Session, book: Sequence[Paragraph]
+    drafts: Drafts,
+    session: Session,
+    book: Sequence[Paragraph],
+    reading: Callable[[ImportNote], None] = lambda note: None,
 ) -> tuple[Unfinished | NotSeen | NotKept, ...]:
     """The imports of which a part is in the book.
 
-    What is noted of others is taken away, unless the book is as old as before them.
+    What is noted of others is taken away, unless the book is as old as before them. Before a
+    document is read again, which may take long, `reading` is called with what is noted of it.
     """
     found: list[Unfinished | NotSeen | NotKept] = []
     drafts.adopt()
     try:
         for note in drafts.imports():
+            kind = note.how.reading.kind
+            if kind is not None and kind.is_document:
+                reading(note)
             try:
                 its = unfinished(session, book, note)
             except NotSeen as fault:

@@ -1,5 +1,6 @@
 """The screen at the opening of a book: where it was left, and what was begun and isn't in the book."""
 
+from collections.abc import Callable
 from dataclasses import replace
 from pathlib import Path
 
@@ -7,6 +8,7 @@ from braildesk import Session
 from braildesk.desk.changed_so_far import left_open, wanted_by
 from braildesk.desk.drafts import Drafts, NotKept
 from braildesk.desk.earlier import PartIsThere, to_go_on
+from braildesk.desk.import_note import ImportNote
 from braildesk.desk.unfinished import NotSeen, Unfinished
 
 from scribe.screen.actions import FindPlaces, ImportFrom, LeaveChange
@@ -80,9 +82,14 @@ def with_answers(unsent: Unsent, state: State) -> State:
     return state.saying(f"{said} {state.message}".rstrip())
 
 
-def reminded(drafts: Drafts, session: Session, state: State) -> State:
+def reminded(
+    drafts: Drafts,
+    session: Session,
+    state: State,
+    reading: Callable[[ImportNote], None],
+) -> State:
     """Asks about an import that was cut short, or says so if something else is asked."""
-    for found in to_go_on(drafts, session, state.book):
+    for found in to_go_on(drafts, session, state.book, reading):
         if isinstance(found, Unfinished) and state.question is None:
             action = ImportFrom(Path(found.note.text), found.after)
             question = question_about(PartIsThere(found), action)

@@ -25,6 +25,7 @@ from braildesk.desk.draft import Aim, Draft, Unread
 from braildesk.desk.drafts import Drafts, LeftAt, NotKept
 from braildesk.desk.highlighting import cells_of_marks
 from braildesk.desk.history import newest_corrector
+from braildesk.desk.import_note import ImportNote
 from braildesk.desk.import_text import file_of
 from braildesk.desk.tables import NoSuchTable, table_request
 from braildesk.protocol.requests import Command
@@ -127,6 +128,7 @@ from scribe.words.drafts import (
     where_typed,
 )
 from scribe.words.export import copy_of_open
+from scribe.words.import_text import read_again
 from scribe.words.links import led
 from scribe.words.paragraph import counted, part_of
 from scribe.words.preview import Preview, Tables
@@ -188,6 +190,8 @@ class Desk:
         self._layouts = pagelook.Layouts()
         #: Where all of a book that is gone was saved.
         self._saved: Path | None = None
+        #: Whether people were told at the opening to wait, before anything of the book was seen.
+        self.was_waited_for = False
         self._open(self._wait)
 
     @property
@@ -222,8 +226,22 @@ class Desk:
             self._follow(lost)
             raise
 
-    def first_state(self, size: Size, by: str | None, is_ascii: bool) -> State:
-        """The screen as it is at the opening, with the text that waits from before."""
+    def first_state(
+        self,
+        size: Size,
+        by: str | None,
+        is_ascii: bool,
+        tell: Callable[[str], None] = lambda sentence: None,
+    ) -> State:
+        """The screen as it is at the opening, with the text that waits from before.
+
+        What takes long is told before that.
+        """
+
+        def reading(note: ImportNote) -> None:
+            self.was_waited_for = True
+            tell(read_again(note))
+
         book = self._session.paragraphs()
         numbers = {each.id for each in book}
         self._unsent.look_elsewhere(
@@ -242,7 +260,7 @@ class Desk:
         state = with_cut(self._unsent, where_left(self.drafts, state))
         state = with_answers(self._unsent, state)
         state = elsewhere(state, self._first_offered(state))
-        state = reminded(self.drafts, self._session, state)
+        state = reminded(self.drafts, self._session, state, reading)
         state = asking(with_changes(self.drafts, self._session, state))
         back = taken_back_in_part(self.drafts, state.version)
         state = saying_first(led(self.path), state.saying_too(back))

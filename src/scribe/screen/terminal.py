@@ -73,6 +73,7 @@ _WAITS = "What was typed and isn't in the book is kept, and is offered when the 
 _UNKEPT = "This was given up, and is kept nowhere:"
 _NO_END = "The end of the pasted text didn't come. All that came is taken as pasted, and keys act again."
 _TOO_SOON = "That key came before the question could be read, and was no answer to it."
+_UNSEEN = "That key came before this could be seen, and did nothing."
 
 
 class _ToldToEnd(Exception):
@@ -233,8 +234,8 @@ class Screen:
         # what is being taken in, before it is cut into keys, and the keys that are carried out
         self._taking = ""
         self._under_way: deque[Stroke] = deque()
-        # since when there was no time for keys, and when they were read last
-        self._busy_from = self._read_at = clock()
+        # when this began, since when there was no time for keys, and when they were read last
+        self._begun_at = self._busy_from = self._read_at = clock()
         self._is_idle, self._works = True, 0
         self._question = ToBeRead()
         # what was said last, of what, and since when it is on the screen, if it ever was
@@ -467,11 +468,18 @@ class Screen:
         self._question.came(self._asked, pressed_at, read_at)
         text, self._taking = self._taking, ""
         strokes = self._keyboard.strokes(text)
+        if is_unseen := self._is_unseen(read_at, since):
+            strokes = [each for each in strokes if text_of(each)]
         # what is begun at an offer is one text also where that isn't there any more
-        is_unread = self._is_unread_offer or self._begin_text(strokes)
+        is_unread = is_unseen or self._is_unread_offer or self._begin_text(strokes)
         self._arrivals.is_unread = is_unread or self._arrivals.holds_unread
         self._lull.came(len(text), self._keyboard.is_pasting, now)
         self._do(self._arrivals.came(strokes, now, since))
+
+    def _is_unseen(self, read_at: float, busy_since: float | None) -> bool:
+        """Whether the first keys may have been pressed while the book was waited for and not seen."""
+        is_first = read_at == self._begun_at and busy_since is not None
+        return is_first and self._desk.was_waited_for
 
     def _take_in(self) -> None:
         """Takes in what came while the program didn't answer."""
@@ -603,6 +611,8 @@ class Screen:
             self._paste(stroke)
         elif self._is_unread_offer and stroke == UNREAD:
             self._become(self.state.saying(_TOO_SOON).after(self.state))
+        elif stroke == UNREAD and not self._asked:
+            self._become(self.state.saying(_UNSEEN).after(self.state))
         elif self._is_typed_on(stroke):
             self._become(self._desk.paste(self.state, stroke))
         else:

@@ -266,6 +266,11 @@ class Console:
 
         return report
 
+    def say_if_followed(self, sentence: str) -> None:
+        """Says a sentence on which nothing depends, unless the errors are no terminal."""
+        if self.errors.isatty():
+            self._say_now(sentence)
+
     def _say_now(self, sentence: str) -> None:
         """Says a sentence on which nothing depends, unless a stopped terminal would hold up the work."""
         # imported only where something takes long

@@ -26,6 +26,7 @@ from braildesk.desk.earlier import (
     Undecided,
     Way,
 )
+from braildesk.desk.import_note import ImportNote
 from braildesk.desk.import_text import (
     CantRead,
     Faulty,
@@ -634,6 +635,13 @@ def _cut_short(cut: CutShort) -> tuple[str, Status]:
         # the book is looked at again, so that no more than the cause is to be said
         return cause.cause, Status.FAILED
     return cause.sentence, Status.FAILED
+
+
+def read_again(note: ImportNote) -> str:
+    """What is said before the document of an import that was cut short is read again."""
+    return (
+        f"{note.text} is read again, to see how much of it is in the book. Please wait."
+    )
 
 
 def not_seen(fault: NotSeen) -> str:

@@ -36,7 +36,7 @@ def answer(session: Session, arguments: Namespace, console: Console) -> None:
         console.say("The book has no paragraphs.")
     if arguments.read_at == arguments.file:
         # another program that has the book open may still be at an import
-        console.say(*_cut_short(session, book, arguments.file))
+        console.say(*_cut_short(session, book, arguments.file, console))
 
 
 def _shown(
@@ -69,14 +69,21 @@ def _are_paired(session: Session, found: Sequence[Shown]) -> list[bool]:
     ]
 
 
-def _cut_short(session: Session, book: ListedBook, file: Path) -> tuple[str, ...]:
+def _cut_short(
+    session: Session, book: ListedBook, file: Path, console: Console
+) -> tuple[str, ...]:
     """What is said of imports into the book that were cut short."""
     if not may_have("imports"):
         return ()
     # what few books need isn't imported for the others
     from braildesk.desk.drafts import Drafts
     from braildesk.desk.earlier import to_go_on
-    from scribe.words.import_text import reminders
+    from scribe.words.import_text import read_again, reminders
 
-    found = to_go_on(Drafts(file), session, book.among())
+    found = to_go_on(
+        Drafts(file),
+        session,
+        book.among(),
+        lambda note: console.say_if_followed(read_again(note)),
+    )
     return tuple(sentence for each in found for sentence in reminders(each, file))

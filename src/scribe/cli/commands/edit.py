@@ -84,7 +84,8 @@ def run(arguments: Namespace, console: Console) -> Status:
     is_ascii = encoding.is_plain(environment)
     of_terminal = encoding.encoding_of(environment, sys.stdout.encoding)
     _take_encoding(of_terminal)
-    state = desk.first_state(Size(columns, lines), arguments.by, is_ascii)
+    size, tell = Size(columns, lines), console.say_if_followed
+    state = desk.first_state(size, arguments.by, is_ascii, tell)
     state = replace(state, page_size=page_size_of(arguments), encoding=of_terminal)
     return _shown(desk, Screen(desk, state), arguments.file, console)
 
