@@ -12,7 +12,7 @@ from typing import Any
 import pytest
 
 import braildesk
-from braildesk import CannotOpen, Kind, Session, Why, requests
+from braildesk import CannotOpen, Kind, Lost, Session, Why, requests
 from braildesk.desk.draft import Aim, Draft
 from braildesk.desk.drafts import Drafts
 from braildesk.desk.manuscripts import taken
@@ -570,6 +570,22 @@ def test_nothing_is_exported_of_another_book_that_was_put_in_the_place_of_the_op
     assert sat.state.is_lost and not moon.with_name("moon-1.brf").exists()
     with Session(f"{moon}-saved-1") as session:
         assert session.paragraphs()[0].struck
+
+
+def test_what_was_kept_before_the_book_was_opened_is_exported_also_where_its_log_is_gone(
+    moon: Path, sit: Sit
+) -> None:
+    with pytest.raises(Lost), Session(moon) as session:
+        session.strike(1)
+        os.kill(session.pid, signal.SIGKILL)
+        session.version()
+    sat = sit(moon)
+    assert sat.state.book[0].struck
+    Path(f"{moon}-wal").unlink()
+    sat.press("x", *str(moon.parent), "enter")
+    sat.state = sat.desk.away(sat.state, lambda _: None)
+    assert b",MOON" not in moon.with_name("moon-1.brf").read_bytes()
+    assert b",TIDES" in moon.with_name("moon-1.brf").read_bytes()
 
 
 def test_nobody_else_has_the_book_while_a_document_is_read(

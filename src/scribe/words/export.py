@@ -45,10 +45,11 @@ def copy_of_open(
         try:
             made = stack.enter_context(copied(path))
             # it is of this book if that is open still, and at its path
-            session.version()
+            version = session.version()
             session.tables()
-            check(made, while_waiting=judge)
-            copy = made
+            # and all of it, where its log wasn't taken away
+            if check(made, while_waiting=judge) == version:
+                copy = made
         except Lost:
             raise
         except (DeskError, OSError, Interrupted):
