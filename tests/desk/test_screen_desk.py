@@ -568,6 +568,7 @@ def test_nothing_is_exported_of_another_book_that_was_put_in_the_place_of_the_op
     os.replace(other, moon)
     sat.state = sat.desk.away(sat.state, lambda _: None)
     assert sat.state.is_lost and not moon.with_name("moon-1.brf").exists()
+    assert sat.state.pages and sat.state.pages.lines[0] == "Nothing was exported."
     with Session(f"{moon}-saved-1") as session:
         assert session.paragraphs()[0].struck
 
@@ -586,6 +587,18 @@ def test_what_was_kept_before_the_book_was_opened_is_exported_also_where_its_log
     sat.state = sat.desk.away(sat.state, lambda _: None)
     assert b",MOON" not in moon.with_name("moon-1.brf").read_bytes()
     assert b",TIDES" in moon.with_name("moon-1.brf").read_bytes()
+
+
+def test_that_nothing_is_exported_is_said_where_the_session_is_lost_as_that_begins(
+    moon: Path, sit: Sit
+) -> None:
+    sat = sit(moon)
+    sat.press("s", "x", *str(moon.parent), "enter")
+    Path(f"{moon}-wal").unlink()
+    sat.state = sat.desk.away(sat.state, lambda _: None)
+    assert sat.state.pages and sat.state.pages.lines == ("Nothing was exported.",)
+    assert "was removed or replaced while it was open" in sat.state.message
+    assert not sat.state.is_lost and not moon.with_name("moon-1.brf").exists()
 
 
 def test_nobody_else_has_the_book_while_a_document_is_read(

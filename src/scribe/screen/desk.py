@@ -401,7 +401,8 @@ class Desk:
                 its = self.path, action, report, self._check
                 ending = done_in_background(*its, copy=copy)
         except Lost as lost:
-            return self._after_loss(state, lost)
+            none = ActionResult("Export.", ("Nothing was exported.",))
+            return _with_report(self._after_loss(state, lost), none)
         return self._drawn(_after_closed(state, state, ending))
 
     def _done_while_closed(
