@@ -5,6 +5,7 @@ import stat
 import time
 from collections.abc import Iterator
 from contextlib import contextmanager, suppress
+from copy import copy
 from dataclasses import dataclass, field
 from pathlib import Path
 from typing import BinaryIO
@@ -110,6 +111,20 @@ class OpenFile:
         if self._descriptor is None:
             raise ValueError("the file is closed")
         return self._descriptor
+
+    def again(self) -> "OpenFile":
+        """The same file, held by itself, also once this one is closed."""
+        other = copy(self)
+        other._descriptor = other._log = other._watch = None
+        if self._descriptor is not None:
+            other._descriptor = os.dup(self._descriptor)
+        return other
+
+    def is_same(self, other: "OpenFile") -> bool:
+        """Whether another one holds this file; if it holds none, whether this one has its name still."""
+        if self._descriptor is None or other._descriptor is None:
+            return self.is_at_its_path
+        return os.path.sameopenfile(self._descriptor, other._descriptor)
 
     @property
     def is_at_its_path(self) -> bool:

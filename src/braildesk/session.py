@@ -7,7 +7,7 @@ import warnings
 from collections import deque
 from collections.abc import Callable, Generator, Iterable, Iterator, Sequence
 from contextlib import contextmanager
-from dataclasses import replace
+from dataclasses import dataclass, replace
 from itertools import zip_longest
 from types import TracebackType
 from typing import TYPE_CHECKING, Any, Self, TypeVar
@@ -154,8 +154,15 @@ class Session(Asking):
             raise self._lose(SessionEnded, _ended(ending))
         self._file.close()
 
-    def guard(self) -> None:
-        """Has the session look after what an earlier one kept as after what it keeps itself."""
+    def guard(self, held: "HeldFile | None" = None) -> None:
+        """Has the session look after what an earlier one kept as after what it keeps itself.
+
+        If the file that this one had is held still, and another is open here, ``Displaced`` is raised.
+        """
+        if held is not None and not held.file.is_same(self._file):
+            self._file.close()
+            self._file, self._seen = held.file, held.version
+            raise self._displaced()
         self._is_at_stake = True
 
     @property
@@ -594,6 +601,27 @@ class Session(Asking):
 def _here() -> tuple[int, int]:
     """The process and the thread that run this: a process that was forked has the pipes too."""
     return os.getpid(), threading.get_ident()
+
+
+@dataclass(frozen=True)
+class HeldFile:
+    """The file that a session had open, and the version that its book had then."""
+
+    file: OpenFile
+    version: int
+
+
+@contextmanager
+def held_file(session: Session) -> Iterator[HeldFile]:
+    """Holds the file of a session meanwhile, also once that is closed, so that no other is taken for it.
+
+    Of a file that nobody holds, and that has no name any more, another one may get the number.
+    """
+    file = session._file.again()
+    try:
+        yield HeldFile(file, session.last_version)
+    finally:
+        file.close()
 
 
 class _Session(Session):

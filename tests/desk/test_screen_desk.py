@@ -649,11 +649,27 @@ def test_nothing_is_imported_into_another_book_that_is_put_there_while_a_documen
     assert sat.state.message.startswith("The file that is at the path now is open.")
 
 
+def with_its_number(other: Path, book: Path) -> None:
+    """Puts a copy of another book in the place of one, with the number of its file if that is free by then."""
+    number = book.stat().st_ino
+    book.unlink()
+    for nth in range(100):
+        made = shutil.copyfile(other, book.with_name(f"copy-{nth}"))
+        if made.stat().st_ino == number:
+            break
+    made.rename(book)
+
+
+@pytest.mark.parametrize("put", [os.replace, with_its_number])
 def test_nothing_is_imported_into_another_book_that_is_put_there_before_it(
-    moon: Path, other: Path, sit: Sit, monkeypatch: pytest.MonkeyPatch
+    moon: Path,
+    other: Path,
+    sit: Sit,
+    monkeypatch: pytest.MonkeyPatch,
+    put: Callable[[Path, Path], None],
 ) -> None:
     def then_done(path: Path, *words: Any) -> ActionResult:
-        os.replace(other, path)
+        put(other, path)
         return done_in_background(path, *words)
 
     monkeypatch.setattr("scribe.screen.desk.done_in_background", then_done)
@@ -662,11 +678,15 @@ def test_nothing_is_imported_into_another_book_that_is_put_there_before_it(
     sat = sit(moon)
     sat.press("s", "i", *str(text), "enter")
     sat.state = sat.desk.away(sat.state, lambda line: None)
+    saved = Path(f"{moon}-saved-1")
     assert sat.state.is_lost and sat.state.pages
-    assert sat.state.pages.lines[0] == (
-        f"Another file was put at “{moon}” as the import began. It isn't the book that was open, so"
-        " nothing was typed. Look first what is there."
+    assert sat.state.pages.lines[-1] == (
+        f"The file of the book is no longer at “{moon}”: another one was put there while it was open."
+        f" All of the book, with what was kept last, is in the new file “{saved}”. Go on with that one,"
+        " or look first what is at the old path by now."
     )
+    with Session(saved) as session:
+        assert len(session.paragraphs()) == 3 and session.paragraphs()[0].struck
     with Session(moon) as session:
         assert len(session.paragraphs()) == 1
 

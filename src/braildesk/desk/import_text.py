@@ -9,7 +9,7 @@ from pathlib import Path
 from types import TracebackType
 from typing import TYPE_CHECKING, Self
 
-from braildesk import After, Displaced, Refused, Session, translate
+from braildesk import After, Refused, Session, translate
 from braildesk.desk.documents.kinds import ManuscriptKind, is_of_kind, kind_of
 from braildesk.desk.documents.options import BRACKETS, BULLET, ReadingOptions
 from braildesk.desk.drafts import Drafts, NotKept
@@ -40,9 +40,9 @@ from braildesk.desk.unfinished import digest_of, unfinished
 from braildesk.desk.validation import are_plain, faults
 from braildesk.named_files import is_handed_over
 from braildesk.protocol.value import Value
-from braildesk.session import session_beside
+from braildesk.session import HeldFile, session_beside
 from braildesk.text import limits
-from braildesk.text.characters import characters_in, shortened
+from braildesk.text.characters import characters_in
 
 
 if TYPE_CHECKING:
@@ -76,7 +76,7 @@ class Import(Value):
     #: Raises what ends the import, and is called while a table is asked for its braille.
     check: Callable[[], None] = lambda: None
     #: The file that a screen had open until now. Nobody else is to have it from the first moment on.
-    held: os.stat_result | None = None
+    held: HeldFile | None = None
 
     @property
     def kind(self) -> ManuscriptKind:
@@ -226,16 +226,7 @@ class Importer:
         if job.held is None:
             return
         session = self._open.enter_context(job.opened())
-        if not os.path.samestat(file_of(session, job.book), job.held):
-            book = os.fspath(job.book)
-            raise Displaced(
-                f"Another file was put at {shortened(book, len(book))} as the import began.",
-                "It isn't the book that was open, so nothing was typed. Look first what is there.",
-                None,
-                0,
-                session.last_version,
-            )
-        session.guard()
+        session.guard(job.held)
         self._session, self._is_held = session, True
 
     def _opened(self) -> AbstractContextManager[Session]:
@@ -442,15 +433,6 @@ class Importer:
         if its.is_to_go_on:
             raise PartIsThere(its)
         return job
-
-
-def file_of(session: Session, book: Path) -> os.stat_result:
-    """The file of a book that a session has open, by which it is known again."""
-    try:
-        return os.fstat(session.fileno())
-    except ValueError:
-        # it could not be opened beside the program
-        return book.stat()
 
 
 def bytes_of(path: Path) -> bytes:

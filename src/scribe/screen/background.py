@@ -1,6 +1,5 @@
 """An export, from a copy if one can be made, and an import: what is done beside the screen."""
 
-import os
 from collections.abc import Callable
 from dataclasses import dataclass, replace
 from io import BytesIO
@@ -13,6 +12,7 @@ from braildesk.desk.earlier import Undecided
 from braildesk.desk.export import Job
 from braildesk.desk.import_text import Import
 from braildesk.protocol.requests import Command
+from braildesk.session import HeldFile
 
 from scribe.screen.actions import ExportTo, ImportFrom, LeaveImport
 from scribe.screen.state import Question
@@ -52,7 +52,7 @@ def done_in_background(
     action: ExportTo | ImportFrom,
     report: Callable[[str], None],
     check: Callable[[], None],
-    held: os.stat_result | None = None,
+    held: HeldFile | None = None,
     copy: Path | None = None,
 ) -> ActionResult:
     """Does an action as the command of the same name does, until the check has it end.
@@ -91,7 +91,7 @@ def _imported(
     console: Console,
     ending: ActionResult,
     lacking: list[Command[Any]],
-    held: os.stat_result | None,
+    held: HeldFile | None,
 ) -> ActionResult:
     """The result with what was kept by an import, or what is asked before it is done.
 

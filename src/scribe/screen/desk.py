@@ -26,9 +26,9 @@ from braildesk.desk.drafts import Drafts, LeftAt, NotKept
 from braildesk.desk.highlighting import cells_of_marks
 from braildesk.desk.history import newest_corrector
 from braildesk.desk.import_note import ImportNote
-from braildesk.desk.import_text import file_of
 from braildesk.desk.tables import NoSuchTable, table_request
 from braildesk.protocol.requests import Command
+from braildesk.session import held_file
 from braildesk.text.characters import visible
 from braildesk.text.spans import Span
 
@@ -414,13 +414,14 @@ class Desk:
         """Exports, while which others may have the book, or imports, and opens the book again."""
         ending = ActionResult("", ())
         try:
-            held = file_of(self._session, self.path)
-            self._session.close()
-            ending = done_in_background(self.path, action, report, self._check, held)
-            if ending.kept:
-                # also if the book can't be opened again
-                state = replace(state, kept=f"kept: {ending.kept}")
-            self._open_further()
+            with held_file(self._session) as held:
+                self._session.close()
+                its = self.path, action, report, self._check
+                ending = done_in_background(*its, held)
+                if ending.kept:
+                    # also if the book can't be opened again
+                    state = replace(state, kept=f"kept: {ending.kept}")
+                self._open_further()
             before = state
             state = self._opened_again(state)
         except Lost as lost:

@@ -12,12 +12,13 @@ from braildesk import After, DeskError, Displaced, Lost
 from braildesk.desk import USUAL_WAIT
 from braildesk.desk.earlier import Undecided, Way
 from braildesk.desk.export import Job
-from braildesk.desk.import_text import Import, file_of
+from braildesk.desk.import_text import Import
 from braildesk.desk.intake import Intake
 from braildesk.desk.proof import open_marks, proof_pages
 from braildesk.desk.whole_file import Access, write_whole
 from braildesk.protocol.requests import Command
 from braildesk.protocol.sentences import of_failure
+from braildesk.session import HeldFile, held_file
 from braildesk.workshop import MayNotLast
 
 from scribe.window import dialogs
@@ -102,7 +103,7 @@ class Files:
             return 0
 
         if not self._from_copy("Export", act):
-            self._aside("Export", act, 0)
+            self._aside("Export", lambda console, _: act(console), 0)
 
     def proof(self) -> None:
         """Asks for a file, and writes a proof there."""
@@ -177,13 +178,7 @@ class Files:
         after: After = desk.number if desk.number is not None else "end"
         table = desk.table_of_new()
         job = Import(
-            desk.path,
-            path,
-            table=table,
-            after=after,
-            way=way,
-            wait=USUAL_WAIT,
-            held=file_of(desk.book.session, desk.path),
+            desk.path, path, table=table, after=after, way=way, wait=USUAL_WAIT
         )
         if way is Way.GO_ON:
             job = replace(job, table=None, after="end")
@@ -192,8 +187,9 @@ class Files:
         def begun(intake: Intake) -> None:
             lacking.extend(intake.lacking)
 
-        def act(console: Console) -> int | None:
-            return import_in_words(job, console, None, _AGAIN, begun).count
+        def act(console: Console, held: HeldFile) -> int | None:
+            its = replace(job, held=held)
+            return import_in_words(its, console, None, _AGAIN, begun).count
 
         try:
             self._aside("Import", act, None, lacking)
@@ -252,7 +248,7 @@ class Files:
     def _aside(
         self,
         title: str,
-        act: Callable[[Console], int | None],
+        act: Callable[[Console, HeldFile], int | None],
         cut: int | None,
         lacking: Sequence[Command[Any]] = (),
     ) -> None:
@@ -267,12 +263,13 @@ class Files:
 
         def whole(say: Say, is_stopped: IsStopped) -> tuple[Contents, tuple[str, ...]]:
             heard = Heard(say)
-            desk.book.close()
-            done.clear()
-            console = _Beside(BytesIO(), heard, heard, _until(is_stopped), tell=say)
-            its = _told(act, console, problems, cut), lacking
-            done.extend(heard.getvalue().splitlines())
-            now = desk.book.imported(before, *its)
+            with held_file(desk.book.session) as held:
+                desk.book.close()
+                done.clear()
+                console = _Beside(BytesIO(), heard, heard, _until(is_stopped), tell=say)
+                its = _told(partial(act, held=held), console, problems, cut), lacking
+                done.extend(heard.getvalue().splitlines())
+                now = desk.book.imported(before, *its)
             return now, (*_changed(before, now, *its, bool(deeds)), *done)
 
         try:
