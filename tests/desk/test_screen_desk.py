@@ -15,7 +15,9 @@ import braildesk
 from braildesk import CannotOpen, Kind, Lost, Session, Why, requests
 from braildesk.desk.draft import Aim, Draft
 from braildesk.desk.drafts import Drafts
+from braildesk.desk.intake import Intake
 from braildesk.desk.manuscripts import taken
+from braildesk.desk.typist import type_all
 from braildesk.text.cells import braille_patterns
 
 from scribe.screen.background import ActionResult, done_in_background
@@ -678,17 +680,74 @@ def test_nothing_is_imported_into_another_book_that_is_put_there_before_it(
     sat = sit(moon)
     sat.press("s", "i", *str(text), "enter")
     sat.state = sat.desk.away(sat.state, lambda line: None)
-    saved = Path(f"{moon}-saved-1")
     assert sat.state.is_lost and sat.state.pages
-    assert sat.state.pages.lines[-1] == (
-        f"The file of the book is no longer at “{moon}”: another one was put there while it was open."
-        f" All of the book, with what was kept last, is in the new file “{saved}”. Go on with that one,"
-        " or look first what is at the old path by now."
-    )
-    with Session(saved) as session:
+    assert sat.state.pages.lines == ("Nothing was typed.", replaced(moon))
+    with Session(f"{moon}-saved-1") as session:
         assert len(session.paragraphs()) == 3 and session.paragraphs()[0].struck
     with Session(moon) as session:
         assert len(session.paragraphs()) == 1
+
+
+def replaced(book: Path) -> str:
+    """What is said of a book in the place of which another one was put."""
+    return (
+        f"The file of the book is no longer at “{book}”: another one was put there while it was open."
+        f" All of the book, with what was kept last, is in the new file “{book}-saved-1”. Go on with"
+        " that one, or look first what is at the old path by now."
+    )
+
+
+def while_typed(patch: pytest.MonkeyPatch, deed: Callable[[], None]) -> None:
+    """Has something be done as the typing of an import begins."""
+
+    def then_typed(
+        session: Session,
+        intake: Intake,
+        report: Callable[[int], None],
+        begin: Callable[[], None],
+    ) -> None:
+        begin()
+        type_all(session, intake, report, deed)
+
+    patch.setattr("braildesk.desk.import_text.type_all", then_typed)
+
+
+def once_imported(patch: pytest.MonkeyPatch, deed: Callable[[], None]) -> None:
+    """Has something be done once an import has come to its end."""
+
+    def then_done(path: Path, *words: Any) -> ActionResult:
+        ending = done_in_background(path, *words)
+        deed()
+        return ending
+
+    patch.setattr("scribe.screen.desk.done_in_background", then_done)
+
+
+@pytest.mark.parametrize("when", [while_typed, once_imported])
+def test_another_book_that_is_put_there_by_an_import_s_end_is_not_taken_for_the_book(
+    moon: Path,
+    other: Path,
+    sit: Sit,
+    monkeypatch: pytest.MonkeyPatch,
+    when: Callable[[pytest.MonkeyPatch, Callable[[], None]], None],
+) -> None:
+    when(monkeypatch, lambda: os.replace(other, moon))
+    text = moon.with_name("text.txt")
+    text.write_text("The sun\n\nThe sea\n")
+    sat = sit(moon)
+    sat.press("i", *str(text), "enter")
+    sat.state = sat.desk.away(sat.state, lambda line: None)
+    typed = "2 paragraphs typed, numbers 4 to 5, by the table en."
+    if when is while_typed:
+        typed = f"{text} is in the book up to line 3, which is the end of paragraph 5 of the book."
+    title = "The session ended."
+    assert sat.state.pages == Pages(title, (typed, replaced(moon)))
+    with Session(f"{moon}-saved-1") as session:
+        its = [session.print_of(each.id) for each in session.paragraphs()]
+    assert (its[1:3], len(its)) == (["The sun", "The sea"], 5)
+    sat.press("enter")
+    assert sat.state.message.startswith("The file that is at the path now is open.")
+    assert [each.id for each in sat.state.book] == [1]
 
 
 def test_what_is_kept_of_an_import_is_said_also_if_another_program_has_the_book_then(

@@ -19,8 +19,10 @@ from braildesk import CannotOpen, Session, Style, Why, copy, new_book, requests
 from braildesk.desk.drafts import Drafts
 from braildesk.desk.export import Job
 from braildesk.desk.import_text import Import
+from braildesk.desk.intake import Intake
 from braildesk.desk.layout import PageSize
 from braildesk.desk.manuscripts import taken
+from braildesk.desk.typist import type_all
 from braildesk.text.spans import Span
 
 from scribe.window import dialogs
@@ -603,6 +605,61 @@ def test_nothing_is_imported_into_another_book_that_is_put_there_while_a_documen
         assert (session.last_version, len(session.paragraphs())) == (before + 1, 3)
     with Session(desk.path) as session:
         assert session.last_version == 0
+
+
+def _while_typed(patch: pytest.MonkeyPatch, deed: Callable[[], None]) -> None:
+    """Has something be done as the typing of an import begins."""
+
+    def then_typed(
+        session: Session,
+        intake: Intake,
+        report: Callable[[int], None],
+        begin: Callable[[], None],
+    ) -> None:
+        begin()
+        type_all(session, intake, report, deed)
+
+    patch.setattr("braildesk.desk.import_text.type_all", then_typed)
+
+
+def _once_imported(patch: pytest.MonkeyPatch, deed: Callable[[], None]) -> None:
+    """Has something be done once an import has come to its end."""
+
+    def then_done(job: Import, *words: Any) -> Outcome:
+        outcome = import_in_words(job, *words)
+        deed()
+        return outcome
+
+    patch.setattr("scribe.window.files.import_in_words", then_done)
+
+
+@pytest.mark.parametrize("when", [_while_typed, _once_imported])
+def test_another_book_that_is_put_there_by_an_import_s_end_is_not_taken_for_the_book(
+    desk: Desk,
+    other: Path,
+    given: Answers,
+    monkeypatch: pytest.MonkeyPatch,
+    tmp_path: Path,
+    when: Callable[[pytest.MonkeyPatch, Callable[[], None]], None],
+) -> None:
+    when(monkeypatch, lambda: os.replace(other, desk.path))
+    (text := tmp_path / "tides.txt").write_text("One.\n\nTwo.\n")
+    desk.window.dropped.emit(text)
+    saved = Path(f"{desk.path}-saved-1")
+    said = (
+        f"The file of the book is no longer at “{desk.path}”: another one was put there while it was"
+        f" open. All of the book, with what was kept last, is in the new file “{saved}”. Go on with"
+        " that one, or look first what is at the old path by now."
+    )
+    typed = "2 paragraphs typed, numbers 4 to 5, by the table en."
+    if when is _while_typed:
+        typed = f"{text} is in the book up to line 3, which is the end of paragraph 5 of the book."
+    assert desk.is_closed and desk.window.message.text == said
+    assert given["said"] == [typed, said]
+    with Session(saved) as session:
+        assert len(session.paragraphs()) == 5
+    desk.act("open_again")
+    assert desk.contents.paragraphs == ()
 
 
 def test_what_an_import_did_is_said_also_if_another_program_has_the_book_after_it(

@@ -35,6 +35,8 @@ class ActionResult:
     lacking: tuple[Command[Any], ...] = ()
     #: What is asked before a text is imported that was imported before.
     question: Question | None = None
+    #: What is said if another file is at the path of the book by now.
+    lost: Displaced | None = None
 
 
 @dataclass(frozen=True)
@@ -57,8 +59,8 @@ def done_in_background(
 ) -> ActionResult:
     """Does an action as the command of the same name does, until the check has it end.
 
-    An import holds the file that the screen had open; raises `Displaced` where another is there by now.
-    An export is made from a copy, if there is one.
+    An import types into the file that the screen had open, and into no other one. An export is made from
+    a copy, if there is one.
     """
     shown, said = Heard(report), Heard(report)
     console = _Beside(BytesIO(), shown, said, check, tell=report)
@@ -71,9 +73,9 @@ def done_in_background(
                 export_in_words(job, console)
             else:
                 ending = _imported(path, action, console, ending, lacking, held)
-    except Displaced:
+    except Displaced as lost:
         # the screen goes on in no other file, as if that were its book
-        raise
+        ending = replace(ending, lost=lost)
     except Stop as stop:
         console.show(*stop.lines)
     except (DeskError, Interrupted) as failed:

@@ -421,7 +421,10 @@ class Desk:
                 if ending.kept:
                     # also if the book can't be opened again
                     state = replace(state, kept=f"kept: {ending.kept}")
+                if ending.lost is not None:
+                    raise ending.lost
                 self._open_further()
+                self._session.guard(held)
             before = state
             state = self._opened_again(state)
         except Lost as lost:

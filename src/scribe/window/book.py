@@ -29,6 +29,7 @@ from braildesk.desk.places import cells_of, words_of
 from braildesk.desk.readings import ParagraphReading, answers
 from braildesk.desk.tables import table_request
 from braildesk.protocol.requests import Command, Request
+from braildesk.session import HeldFile
 from braildesk.text.cells import braille_patterns
 from braildesk.text.excerpt import opening
 from braildesk.text.sequences import composed
@@ -177,12 +178,15 @@ class OpenBook:
         """The number of the process of the session."""
         return self._session.pid
 
-    def opened(self) -> Contents:
-        """Opens the session, and reads the tables that the book has."""
+    def opened(self, held: HeldFile | None = None) -> Contents:
+        """Opens the session, and reads the tables that the book has.
+
+        Raises `Displaced` if the file that the session before had is held, and another is there now.
+        """
         look = self._while_waiting
         session = Session(self.path, timeout=self._wait, while_waiting=look)
         try:
-            return self._with(session)
+            return self._with(session, held)
         except BaseException:
             session.close()
             raise
@@ -569,12 +573,13 @@ class OpenBook:
         before: Contents,
         count: int | None,
         lacking: Sequence[Command[Any]] = (),
+        held: HeldFile | None = None,
     ) -> Contents:
         """The book after an import, which is taken back at once if nothing else changed it.
 
         It had so many paragraphs, if that is known, and first did what an earlier part of it lacked.
         """
-        now = self.opened()
+        now = self.opened(held)
         commands = now.version - before.version
         of_import = commands, count, lacking
         deed = deeds.imported(before.paragraphs, now.paragraphs, *of_import)
@@ -746,11 +751,11 @@ class OpenBook:
         if backs:
             self._deeds = (*before, Deed(what, backs))
 
-    def _with(self, session: Session) -> Contents:
+    def _with(self, session: Session, held: HeldFile | None = None) -> Contents:
         self._session = session
         if self._was_open:
             # what was kept before is at stake in this session as well
-            session.guard()
+            session.guard(held)
         self._was_open = True
         self.tables.read(session.tables())
         return self.contents()

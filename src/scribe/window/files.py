@@ -1,7 +1,8 @@
 """Texts that come into the book at work, and the volumes and proofs that go out of it."""
 
 import signal
-from collections.abc import Callable, Sequence
+from collections.abc import Callable, Iterator, Sequence
+from contextlib import contextmanager
 from dataclasses import dataclass, replace
 from functools import partial
 from io import BytesIO
@@ -262,14 +263,12 @@ class Files:
         desk.unwatch()
 
         def whole(say: Say, is_stopped: IsStopped) -> tuple[Contents, tuple[str, ...]]:
-            heard = Heard(say)
             with held_file(desk.book.session) as held:
                 desk.book.close()
-                done.clear()
-                console = _Beside(BytesIO(), heard, heard, _until(is_stopped), tell=say)
-                its = _told(partial(act, held=held), console, problems, cut), lacking
-                done.extend(heard.getvalue().splitlines())
-                now = desk.book.imported(before, *its)
+                with _noting(done, say, is_stopped) as console:
+                    count = _told(lambda to: act(to, held), console, problems, cut)
+                its = count, lacking
+                now = desk.book.imported(before, *its, held)
             return now, (*_changed(before, now, *its, bool(deeds)), *done)
 
         try:
@@ -304,6 +303,17 @@ class Files:
         if done:
             dialogs.report(desk.window, title, [*done, why])
         return Stop(" ".join([*done[-1:], why]))
+
+
+@contextmanager
+def _noting(done: list[str], say: Say, is_stopped: IsStopped) -> Iterator[Console]:
+    """What says what was done, which is noted also if another file is at the path of the book by then."""
+    done.clear()
+    heard = Heard(say)
+    try:
+        yield _Beside(BytesIO(), heard, heard, _until(is_stopped), tell=say)
+    finally:
+        done.extend(heard.getvalue().splitlines())
 
 
 def _until(is_stopped: IsStopped) -> Callable[[], None]:

@@ -118,11 +118,8 @@ def import_in_words(
         try:
             typed = importer.type_text(intake, console.progress("paragraphs typed"))
         except CutShort as cut:
-            sentence, status = _cut_short(cut)
-            console.say(sentence, *_left(importer.job_again, intake, cut, again))
-            if isinstance(cut.cause, KeyboardInterrupt):
-                raise Interrupted.after(cut.cause) from cut
-            return Outcome(status, _part_kept(cut), cut.kept)
+            left = _left(importer.job_again, intake, cut, again)
+            return _part_typed(job, cut, left, console)
     if not typed.count:
         console.show(f"All of {job.text} is in the book now.")
         return Outcome(Status.DONE, f"the rest of {job.text.name}", 0)
@@ -133,6 +130,23 @@ def import_in_words(
     kept = f"{_paragraphs(typed.count)} typed, {numbers}, by the table {typed.table}"
     console.show(f"{kept}.")
     return Outcome(Status.DONE, kept, typed.count)
+
+
+def _part_typed(
+    job: Import, cut: CutShort, left: Iterable[str], console: Console
+) -> Outcome:
+    """Says what became of an import that was cut short, and what is left of it.
+
+    Raises `Displaced` where a screen had the book open, which says itself what became of that.
+    """
+    if job.held is not None and isinstance(cut.cause, Displaced):
+        console.say(*left)
+        raise cut.cause from None
+    sentence, status = _cut_short(cut)
+    console.say(sentence, *left)
+    if isinstance(cut.cause, KeyboardInterrupt):
+        raise Interrupted.after(cut.cause) from cut
+    return Outcome(status, _part_kept(cut), cut.kept)
 
 
 def _part_kept(cut: CutShort) -> str:
@@ -179,9 +193,12 @@ def prepared(
 
 @contextmanager
 def _stopped_before_typing(console: Console) -> Iterator[None]:
-    """Says that nothing was typed if that is stopped."""
+    """Says that nothing was typed if that is stopped, or another file is at the path of the book."""
     try:
         yield
+    except Displaced:
+        console.say("Nothing was typed.")
+        raise
     except KeyboardInterrupt as cause:
         console.say(f"{stopped_by(cause)} Nothing was typed.")
         raise Interrupted.after(cause) from cause
