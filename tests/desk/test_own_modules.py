@@ -50,7 +50,7 @@ def test_the_screen_saves_a_book_that_is_gone_from_its_path(
     change(modules)
     moon.unlink()
     terminal.keys("down", "s")
-    terminal.wait("Enter opens the book again  q ends")
+    terminal.wait("Enter opens what is at the path  q ends")
     terminal.answer("q")
     assert terminal.ended() == 3
     saved = moon.with_name("moon.braildesk-saved-1")

@@ -353,7 +353,7 @@ def test_a_text_that_can_not_be_kept_is_said_beside_where_a_book_was_saved_witho
     moon.unlink()
     if is_seen:
         terminal.keys("enter")
-        terminal.wait("Enter opens the book again")
+        terminal.wait("Enter opens what is at the path")
     terminal.send_signal(signal.SIGTERM)
     assert terminal.ended() == 3
     # a path may be parted at the end of a line
@@ -373,7 +373,7 @@ def test_who_types_on_where_the_session_ends_does_not_end_scribe(
     terminal.wait("It rose.")
     moon.unlink()
     terminal.send("\rq")
-    terminal.wait("Enter opens the book again  q ends")
+    terminal.wait("Enter opens what is at the path  q ends")
     terminal.wait(
         "That key came before the question could be read, and was no answer to it."
     )
@@ -394,7 +394,7 @@ def test_what_is_typed_on_where_the_session_ends_is_kept_from_its_first_letter_o
     # over a network keys may come together
     terminal.send("\rI")
     terminal.type_on("t set.")
-    terminal.wait("Enter opens the book again  q ends")
+    terminal.wait("Enter opens what is at the path  q ends")
     terminal.wait("No key of that text was obeyed.")
     assert [each.text for each in Drafts(moon).given_up()] == ["It set."]
 

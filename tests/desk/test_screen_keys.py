@@ -994,6 +994,11 @@ def test_a_lost_session_is_left_or_opened_again_and_nothing_else() -> None:
     for key in ("?", "f1", "s", "escape"):
         said = "Enter opens the book again, and q ends. That key does nothing here."
         assert step(lost, key).state == lost.saying(said)
+        said = (
+            "Enter opens what is at the path, and q ends. That key does nothing here."
+        )
+        gone = replace(lost, is_displaced=True)
+        assert step(gone, key).state == gone.saying(said)
 
 
 def test_the_openings_of_other_paragraphs_stay() -> None:

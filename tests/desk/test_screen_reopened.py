@@ -887,6 +887,32 @@ def test_what_is_in_a_book_that_is_gone_is_said_to_be_and_does_not_wait(
     assert again.state.version == 9
 
 
+def test_enter_opens_what_is_at_the_path_of_a_book_whose_folder_was_renamed(
+    moon: Path, sit: Sit
+) -> None:
+    (folder := moon.with_name("books")).mkdir()
+    moon = moon.rename(folder / moon.name)
+    sat = sit(moon)
+    sat.press("s")
+    there = gone(moon, is_moved=True)
+    sat.press("b")
+    assert sat.state.pages and f" It is at “{there}” now," in sat.state.pages.lines[0]
+    said = sat.state.pages.lines
+    for _ in range(2):
+        hint = "Enter opens what is at the path  q ends  Up, Down look further"
+        assert sat.lines[-1] == hint
+        sat.press("enter")
+        no_file = f"There is no file “{moon}”. Check that the path is right."
+        assert sat.state.pages.lines == (no_file, *said)
+    there.parent.rename(folder)
+    sat.press("enter")
+    # what was sent as it was seen to be gone is there, too
+    assert sat.state.message.startswith(
+        "The file that is at the path now is open. It is at version 9 now;"
+    )
+    assert sat.state.book[0].struck
+
+
 def test_what_was_typed_is_offered_in_the_file_in_which_a_book_was_saved_that_is_gone(
     moon: Path, sit: Sit
 ) -> None:
@@ -937,7 +963,7 @@ def test_lines_that_a_book_lacks_that_is_gone_are_offered_where_it_is(
     sat.press("y")
     assert sat.state.is_lost and sat.state.pages
     said = sat.state.pages.lines[-1]
-    assert said.startswith("It is kept, and is offered when that new file is opened.")
+    assert said.startswith("It is kept, and is offered when that file is opened.")
     again = sit(there)
     asked = again.state.question
     assert asked and "isn't in the book: “It set.”." in asked.sentence

@@ -802,7 +802,7 @@ class Desk:
             lines += map(visible, typed)
         waiting = self._unsent.waiting
         if waiting is not None and waiting == draft_of(state):
-            when = "that new file is opened" if is_saved else "the book is opened again"
+            when = "that file is opened" if is_saved else "the book is opened again"
             lines.append(
                 f"It is kept, and is offered when {when}. Until then it is in {self.drafts.place}."
             )

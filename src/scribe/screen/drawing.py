@@ -302,7 +302,7 @@ def _asked(state: State, question: Question) -> Area:
 def _hint(state: State) -> str:
     """Which keys are needed most."""
     if state.is_lost:
-        return "Enter opens the book again  q ends  Up, Down look further"
+        return f"Enter opens {state.opens}  q ends  Up, Down look further"
     if state.away:
         return "Please wait. Keys do nothing until this is done."
     if state.typed and state.typed.purpose.is_new and not state.pages:

@@ -69,7 +69,7 @@ _OF_GOING = "A paragraph's number, or page 6 line 9, or words to find."
 # what is said before it is done, since the book keeps it
 _OF_TABLE = "A table that the book lacks is put into it, and stays there."
 _OF_IMPORT = "The book keeps what is imported. u strikes it, and nothing takes it out."
-_OF_LOST = "Enter opens the book again, and q ends. That key does nothing here."
+_OF_LOST = "Enter opens {opens}, and q ends. That key does nothing here."
 _HELP = "Keys "
 # of a text that isn't in the book
 _WAY_BACK = re.compile(r"\bU (?:brings|asks)\b|\bhere only until\b")
@@ -122,7 +122,7 @@ def _step(state: State, key: str) -> Step:
         return Step(state, OpenAgain())
     if state.is_lost and key == "escape":
         # whoever leaves something by it would type the next keys to a shell
-        return Step(state.saying(_OF_LOST))
+        return Step(state.saying(_OF_LOST.format(opens=state.opens)))
     if state.question and not state.is_lost:
         # from here on it is read anew
         question = replace(state.question, row=None)
@@ -160,7 +160,7 @@ def _looking(state: State, pages: Pages, key: str) -> State:
     if moved is not None:
         return replace(state, pages=moved)
     if state.is_lost:
-        return state.saying(_OF_LOST)
+        return state.saying(_OF_LOST.format(opens=state.opens))
     target = pager.target(pages, state.size) if key == "enter" else None
     if target is not None:
         return at_target(state, target)

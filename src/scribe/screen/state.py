@@ -349,6 +349,11 @@ class State:
         return tuple(Span(m.start, m.stop) for m in marks if not m.resolved)
 
     @property
+    def opens(self) -> str:
+        """What Enter opens once the session has ended; another file may be at the path then, or none."""
+        return "what is at the path" if self.is_displaced else "the book again"
+
+    @property
     def heard(self) -> str:
         """What has to be said, otherwise than before, so that it is drawn and spoken once more.
 
