@@ -187,7 +187,7 @@ def test_while_a_session_is_open_nothing_is_read_or_copied(
                 attempt()
             assert caught.value.why == Why.IN_USE
             assert caught.value.sentence == (
-                f"Another program has “{book}” open. Nothing was changed. End that one first."
+                f"Another program has “{book}” open. Nothing was changed. That one must end first."
             )
         assert session.version() == 2
     assert not to.exists()
@@ -2523,8 +2523,8 @@ def test_a_book_beside_the_log_of_one_that_is_open_is_said_to_be_that(
         assert opening.why(BookFile(str(book))) is Why.LOG_IN_USE
         assert caught.value.sentence == (
             f"Another program has “{log}” open, but not “{book}”. So that log belongs to another book,"
-            f" perhaps to one that stood at “{book}” before. Nothing was changed. End that program"
-            " first."
+            f" perhaps to one that stood at “{book}” before. Nothing was changed. That program must"
+            " end first."
         )
         assert (log.read_bytes(), copied.exists()) == (before, False)
     assert braildesk.check(book) == 0

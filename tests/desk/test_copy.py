@@ -128,8 +128,8 @@ def test_no_copy_takes_the_log_of_a_session_in_whose_place_another_file_was_put(
             2,
             "",
             f"Another program has “{log}” open, but not “other”. So that log belongs to another book,"
-            " perhaps to one that stood at “other” before. Nothing was changed. End that program"
-            " first.\n",
+            " perhaps to one that stood at “other” before. Nothing was changed. That program must"
+            " end first.\n",
         )
         with pytest.raises(CannotOpen) as refused:
             braildesk.copy(moon, other, overwrite=True)
@@ -198,6 +198,6 @@ def test_a_book_whose_session_ends_is_not_replaced_by_what_it_had_kept_before(
     session.close()
     assert status == 2
     assert said.getvalue() == (
-        f"Another program has “{moon}” open. Nothing was changed. End that one first.\n"
+        f"Another program has “{moon}” open. Nothing was changed. That one must end first.\n"
     )
     assert braildesk.check(moon) == 7

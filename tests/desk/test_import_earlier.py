@@ -153,7 +153,7 @@ def test_the_rest_of_an_import_that_may_go_on_is_not_left_out(killed: Path) -> N
         assert again(killed, "--leave", "--wait", "0") == Ran(
             2,
             "",
-            f"Another program has “{killed}” open. Nothing was changed. End that one first.\n",
+            f"Another program has “{killed}” open. Nothing was changed. That one must end first.\n",
         )
     assert Drafts(killed).imports() == (begun(killed),)
     killed.rename(killed.with_name("elsewhere"))

@@ -794,7 +794,7 @@ def test_what_an_import_did_is_said_also_if_another_program_takes_the_book_then(
     others[0].close()
     assert sat.state.pages == Pages(
         "The book is closed.",
-        (typed, f"Another program has “{moon}” open. End that one first."),
+        (typed, f"Another program has “{moon}” open. That one must end first."),
     )
     assert sat.lines[0].rstrip().endswith(f"last kept: {typed}")
     sat.press("enter")

@@ -428,7 +428,7 @@ def test_a_book_that_cannot_be_opened_again_says_why_until_it_can(
     with once_free(moon):
         sat.state = sat.desk.lost(sat.state)
         assert sat.state.is_lost and sat.state.pages
-        in_use = f"Another program has “{moon}” open. End that one first."
+        in_use = f"Another program has “{moon}” open. That one must end first."
         assert sat.state.pages.lines[:2] == (
             "The session was ended by signal 9. Nothing was changed by this session.",
             in_use,
@@ -456,7 +456,7 @@ def test_a_book_that_another_program_took_is_not_said_to_be_unchanged(
         assert sat.state.pages and sat.state.pages.lines == (
             "The session was ended by signal 9. The last command that was reported as kept is the striking of"
             " paragraph 1, by which the book came to version 8. All up to it is in the book.",
-            f"Another program has “{moon}” open. End that one first.",
+            f"Another program has “{moon}” open. That one must end first.",
         )
         sat.press("enter")
         assert "Nothing was changed" not in " ".join(sat.lines)

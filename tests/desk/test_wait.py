@@ -89,9 +89,7 @@ def test_a_book_that_is_not_free_in_time_is_said_to_be_in_use(
     status, shown, said = run_beside(monkeypatch, moon, 1.5, *words.split())
     assert (status, shown) == (2, "")
     # talk says it in lines of a width, for which the path may be too long
-    wanted = (
-        f"Another program has “{moon}” open. Nothing was changed. End that one first."
-    )
+    wanted = f"Another program has “{moon}” open. Nothing was changed. That one must end first."
     assert "".join(said.split()) == "".join(wanted.split())
 
 

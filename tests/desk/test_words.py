@@ -362,7 +362,7 @@ def test_a_book_that_is_in_use_is_refused(moon: Path) -> None:
     assert ran == Ran(
         2,
         "",
-        f"Another program has “{moon}” open. Nothing was changed. End that one first.\n",
+        f"Another program has “{moon}” open. Nothing was changed. That one must end first.\n",
     )
 
 

@@ -680,7 +680,7 @@ def test_what_an_import_did_is_said_also_if_another_program_has_the_book_after_i
     desk.window.dropped.emit(text)
     said = [
         "2 paragraphs typed, numbers 4 to 5, by the table en.",
-        f"Another program has “{desk.path}” open. End that one first.",
+        f"Another program has “{desk.path}” open. That one must end first.",
     ]
     assert (desk.window.message.text, shown) == (" ".join(said), said)
     assert desk.is_closed and desk.loss == " ".join(said)

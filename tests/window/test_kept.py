@@ -286,7 +286,7 @@ def _cannot_be_opened(window: Reader, book: Path, sentence: str) -> None:
 
 def test_a_book_that_is_open_elsewhere_is_not_shown(moon: Path, at: Open) -> None:
     with Session(moon):
-        sentence = f"Another program has “{moon}” open. Nothing was changed. End that one first."
+        sentence = f"Another program has “{moon}” open. Nothing was changed. That one must end first."
         _cannot_be_opened(at(moon, is_waited_for=False), moon, sentence)
 
 

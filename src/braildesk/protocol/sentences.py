@@ -194,7 +194,7 @@ UNOPENED = MappingProxyType(
         " Remove files of yours there, or ask for more room, and try again.",
         Why.NO_DATABASE: "{path} is no book, since it isn't even a database. {nothing}"
         " Check that the path is right.",
-        Why.IN_USE: "Another program has {path} open. {nothing} End that one first.",
+        Why.IN_USE: "Another program has {path} open. {nothing} That one must end first.",
         Why.LINKED: "The file {path} has another name too (a hard link). By each name its newest"
         " work would be looked for in another place, so it is opened by none. {nothing}"
         " Remove the other name; if one of them has a file ending in -wal beside it, keep that one.",
@@ -206,7 +206,7 @@ UNOPENED = MappingProxyType(
         " the place of the book. {nothing} Keep both files; to go on with {path} as it"
         " is, move {log} away.",
         Why.LOG_IN_USE: "Another program has {log} open, but not {path}. So that log belongs to another"
-        " book, perhaps to one that stood at {path} before. {nothing} End that program first.",
+        " book, perhaps to one that stood at {path} before. {nothing} That program must end first.",
         Why.NO_LOG: "What stands at {log} is no log of its own, but a link, a folder, a pipe, a book"
         " or another file, and the newest work of {path} would be looked for there. {nothing}"
         " Move it away, or ask an administrator to do so where its folder doesn't let you.",
