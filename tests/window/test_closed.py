@@ -342,8 +342,8 @@ def test_that_a_book_was_put_in_place_of_another_is_said_to_bar_taking_back(
     assert desk.is_closed
     desk.act("open_again")
     assert desk.window.message.text == (
-        "The book is open again, at version 6. Ctrl+Z no longer takes back what was done before it"
-        " was opened again."
+        "The file that is at the path now is open, at version 6. Ctrl+Z no longer takes back what was"
+        " done before it was opened again."
     )
     desk.act("take_back")
     assert desk.window.message.text.startswith("There is nothing that Ctrl+Z could")
@@ -717,7 +717,8 @@ def test_of_a_book_of_which_the_file_is_gone_it_is_said_where_it_is_until_that_i
     assert message.text == f"The book is closed: {opens}."
     desk.act("open_again")
     assert not desk.is_closed
-    assert message.text.startswith("The book is open again, at version ")
+    opened = "The file that is at the path now is" if is_saved else "The book is"
+    assert message.text.startswith(f"{opened} open")
 
 
 def test_letters_that_are_taken_away_again_wait_nowhere_for_a_book_that_is_gone(

@@ -660,6 +660,9 @@ def test_another_book_that_is_put_there_by_an_import_s_end_is_not_taken_for_the_
         assert len(session.paragraphs()) == 5
     desk.act("open_again")
     assert desk.contents.paragraphs == ()
+    assert desk.window.message.text.startswith(
+        "The file that is at the path now is open, at version 0."
+    )
 
 
 def test_what_an_import_did_is_said_also_if_another_program_has_the_book_after_it(

@@ -147,7 +147,6 @@ class OpenBook:
         # what was last sent takes back the last deed, or resolves a mark
         self._is_taking_back = False
         self._resolving: Deed | None = None
-        # another file may stand in the place of the book
         self._is_displaced = False
         # the paragraphs as they were listed last: a long book takes a while to list
         self._known: tuple[Paragraph, ...] = ()
@@ -172,6 +171,11 @@ class OpenBook:
     def last_deed(self) -> Deed | None:
         """What was done last in this window."""
         return self._deeds[-1] if self._deeds else None
+
+    @property
+    def is_displaced(self) -> bool:
+        """Whether another file may stand in the place of the book."""
+        return self._is_displaced
 
     @property
     def pid(self) -> int:

@@ -137,8 +137,10 @@ class View:
             return
         if (closed := desk.closed) != CLOSED:
             raise Stop(closed)
-        deeds = desk.book.deeds
+        deeds, opened = desk.book.deeds, "The book is open again"
+        if desk.book.is_displaced:
+            opened = "The file that is at the path now is open"
         more = desk.taken_again(desk.work.result(desk.book.opened_again))
         left = LEFT if deeds and not desk.book.deeds else ""
-        at = f"The book is open again, at version {desk.contents.version:,}."
+        at = f"{opened}, at version {desk.contents.version:,}."
         desk.say(" ".join(filter(None, (at, left, more))))
