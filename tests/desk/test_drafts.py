@@ -566,6 +566,26 @@ def test_a_text_that_was_given_up_and_can_not_be_kept_waits_on_before_one_left_f
     assert (its.waiting(), its.later(), its.given_up()) == (text, (), (NOTE,))
 
 
+def test_a_text_that_was_given_up_and_is_said_to_wait_still_does_once_another_one_is_typed(
+    moon: Path, store: Path
+) -> None:
+    other = Draft(Aim.AFTER, 1, "en", "", "It rose.")
+    unsent, its = Unsent(Drafts(moon)), Drafts(moon)
+    unsent.keep(NOTE)
+    its.place.with_suffix(".given-up").symlink_to(moon)
+    assert unsent.put_by(NOTE).endswith("and the next opening asks about it.")
+    unsent.keep(None)
+    for typed in (other, replace(other, text="It rose. It set.")):
+        unsent.keep(typed)
+        assert (its.waiting(), its.later(), unsent.unkept) == (typed, (NOTE,), ())
+    unsent.keep(None)
+    assert (its.waiting(), its.later(), unsent.unkept) == (NOTE, (), ())
+    unsent.keep(other)
+    its.place.with_suffix(".given-up").unlink()
+    unsent.keep(None)
+    assert (its.waiting(), its.later(), its.given_up()) == (None, (), (NOTE,))
+
+
 @pytest.mark.parametrize("kind", [Begun.WAITING, Begun.LATER])
 def test_what_comes_after_what_can_not_be_read_is_read(
     moon: Path, store: Path, kind: Begun

@@ -296,6 +296,9 @@ class Unsent:
     def keep(self, typed: Draft | None) -> None:
         """Has what is typed wait, or what was left for later, or nothing; may raise `NotKept`."""
         self._keep_here()
+        if typed not in (None, self.waiting) and self.waiting in self._here:
+            # what couldn't be kept elsewhere waits on, also where another text comes in its place
+            self._later = (self.waiting, *_without(self.waiting, self._later))
         wanted, its = typed or self._next(), self.waiting
         is_moved = wanted and its and wanted.place != its.place
         if wanted != its or is_moved:
@@ -352,7 +355,7 @@ class Unsent:
             except NotKept:
                 return
             self._older = (*older, *self._older)
-            self._here.pop()
+            self._forget(self._here.pop())
 
     def keep_again(self) -> str:
         """Tries again to keep what was given up, and gives what was said of it and isn't so any more."""
@@ -365,8 +368,9 @@ class Unsent:
     @property
     def unkept(self) -> tuple[str, ...]:
         """The texts that were given up and are kept nowhere, the newest first."""
-        # one that waits is where it was kept before
-        return tuple(each.text for each in self._here if each != self.waiting)
+        # one that waits is where it was kept before, or among those left for later
+        elsewhere = (self.waiting, *self._put_off)
+        return tuple(each.text for each in self._here if each not in elsewhere)
 
     def keep_cut(self, text: str) -> None:
         """Keeps what was last cut out of a text, or nothing; may raise `NotKept`."""
