@@ -137,6 +137,31 @@ def test_an_import_that_is_cancelled_is_gone_on_with(
     assert (said[3:], desk.window.message.text) == ([rest], rest)
 
 
+def test_an_export_that_is_cancelled_while_the_book_is_copied_writes_nothing(
+    desk: Desk,
+    cancelled: Cancelled,
+    monkeypatch: pytest.MonkeyPatch,
+    tmp_path: Path,
+) -> None:
+    def checked(path: Path, while_waiting: Callable[[], None]) -> None:
+        """As the copy of a long book is, which takes a while."""
+        end = time.monotonic() + PATIENCE_SECONDS
+        while time.monotonic() < end:
+            while_waiting()
+            time.sleep(0.01)
+
+    monkeypatch.setattr("scribe.words.export.check", checked)
+    folder = tmp_path / "pages"
+    monkeypatch.setattr(dialogs, "folder", lambda *_: str(folder))
+    said = cancelled("Export. Please wait.", lambda: desk.act("export"))
+    assert said == ["Stopped. Nothing was exported."]
+    assert desk.window.message.text == said[0]
+    assert not folder.exists()
+    # the book is worked on
+    desk.act("strike")
+    assert desk.window.message.text == "Kept: paragraph 1 struck."
+
+
 TABLE = "space \\s 0\nletter a 1\nletter b 12\n"
 
 

@@ -221,7 +221,7 @@ class Files:
     def _from_copy(self, title: str, act: Callable[..., int]) -> bool:
         """Does something with a copy, while nobody else has the book, and shows what was said of it.
 
-        If none can be made, nothing is done.
+        If none can be made, nothing is done, unless that was stopped.
         """
         desk = self.desk
 
@@ -231,7 +231,7 @@ class Files:
             console = _Beside(BytesIO(), heard, heard, check, tell=say)
             with copy_of_open(desk.book.session, desk.path, check) as copy:
                 if copy is None:
-                    return None
+                    return ["Stopped. Nothing was exported."] if is_stopped() else None
                 _told(partial(act, copy=copy), console, [], 0)
             return heard.getvalue().splitlines()
 
