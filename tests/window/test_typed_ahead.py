@@ -5,10 +5,17 @@ from collections.abc import Sequence
 from pathlib import Path
 
 import pytest
+from PyQt6.QtCore import QCoreApplication, QEvent, Qt, QTimer
+from PyQt6.QtGui import QKeyEvent
+from PyQt6.QtWidgets import QApplication, QDialog, QMainWindow
 
 from braildesk.desk.drafts import Drafts
 
+from scribe.window import dialogs
+from scribe.window.held import Held
+
 from conftest import Open
+from reader import PATIENCE_SECONDS
 
 _FOUND = "Paragraph 3, character 17."
 
@@ -64,3 +71,35 @@ def test_what_hands_type_for_lines_before_they_are_there_comes_into_each(
     window.press("Escape")
     window.no_dialog()
     window.says("Nothing was changed.")
+
+
+def test_keys_that_a_screen_reader_hands_on_beneath_a_line_come_into_it(
+    application: QApplication,
+) -> None:
+    """It has them from when they were pressed, and hands each on to the window in which that was."""
+    held, window = Held(), QMainWindow()
+    window.show()
+    keys = [*map(ord, "SAE"), *[Qt.Key.Key_Backspace] * 2, *map(ord, "EA")]
+    timer, last = QTimer(), QTimer()
+
+    def hand_on() -> None:
+        dialog = QApplication.activeModalWidget()
+        if not isinstance(dialog, QDialog):
+            return
+        timer.stop()
+        last.timeout.connect(dialog.reject)
+        last.start(int(PATIENCE_SECONDS * 1000))
+        for key in (*keys, Qt.Key.Key_Return):
+            text = chr(key).lower() if key < ord("Z") else ""
+            for kind in (QEvent.Type.KeyPress, QEvent.Type.KeyRelease):
+                event = QKeyEvent(kind, key, Qt.KeyboardModifier.NoModifier, text)
+                QCoreApplication.postEvent(window.windowHandle(), event)
+
+    timer.timeout.connect(hand_on)
+    timer.start(1)
+    try:
+        assert dialogs.text(window, "Find", "Words:", "moon") == "sea"
+    finally:
+        last.stop()
+        held.stop()
+        window.close()

@@ -25,6 +25,7 @@ _BY_HANDS = frozenset(
 # what Qt makes of keys before they come to a window
 _OF_KEYS = frozenset((_KINDS.Shortcut, _KINDS.InputMethod))
 _OF_TEXT = frozenset((_KINDS.KeyPress, _KINDS.InputMethod))
+_KEYS = frozenset((_KINDS.KeyPress, _KINDS.KeyRelease))
 # what is dragged, which is there only for now
 _OF_DRAGS = frozenset((_KINDS.DragEnter, _KINDS.DragMove, _KINDS.Drop))
 # the property of dialogs of which a line takes what came before it was there
@@ -38,6 +39,13 @@ def take_what_came(dialog: QWidget) -> None:
 
 def _is_of_line(dialog: QWidget | None) -> TypeGuard[QWidget]:
     return dialog is not None and bool(dialog.property(_TAKES))
+
+
+def _is_beneath_line(to: QObject) -> bool:
+    """Whether a window is beneath a line that hasn't the keyboard yet, where Qt drops a key that comes."""
+    dialog = QApplication.activeModalWidget()
+    over = dialog.parentWidget() if _is_of_line(dialog) else None
+    return over is not None and to is over.windowHandle()
 
 
 class Held(QObject):
@@ -116,19 +124,22 @@ class Held(QObject):
         return "".join(typed)
 
     def eventFilter(self, to: QObject | None, event: QEvent | None) -> bool:
-        """Takes what hands do while something is waited for, and what they did after that.
+        """Takes what hands do while something is waited for, what they did after that, and keys beneath a line.
 
         What they drag isn't taken, and stays where it comes from.
         """
         is_obeyed = event is self._obeyed
         if isinstance(event, QKeyEvent) and not is_obeyed and self._is_held_down(event):
             return True
-        if isinstance(to, QWidget) and event is not None and _is_of_line(to):
-            self._take_until_shown(event)
-        is_held = self._waits or self._events or self._is_over
-        if not is_held or to is None or event is None:
+        if to is None or event is None:
             return False
-        over, kind = QApplication.activeModalWidget(), event.type()
+        if isinstance(to, QWidget) and _is_of_line(to):
+            self._take_until_shown(event)
+        kind = event.type()
+        is_beneath = kind in _KEYS and _is_beneath_line(to)
+        if not (is_beneath or self._waits or self._events or self._is_over):
+            return False
+        over = QApplication.activeModalWidget()
         # a dialog that opens while something is waited for can be answered
         is_answer = bool(self._waits) and over is not self._over
         if not is_answer and kind in _OF_DRAGS and isinstance(to, QWindow):
@@ -142,7 +153,9 @@ class Held(QObject):
         moves = kind == _KINDS.MouseMove and bool(self._events)
         if moves and self._events[-1][2].type() == kind:
             self._events.pop()
-        self._events.append((over, to, copy))
+        self._events.append((None if is_beneath else over, to, copy))
+        if is_beneath:
+            self._soon.start()
         event.setAccepted(kind != _KINDS.Close)
         if kind in _OF_TEXT:
             self.changed.emit()
