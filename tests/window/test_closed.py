@@ -721,6 +721,23 @@ def test_of_a_book_of_which_the_file_is_gone_it_is_said_where_it_is_until_that_i
     assert message.text.startswith(f"{opened} open")
 
 
+def test_a_text_is_dropped_on_a_book_of_which_the_file_is_gone_and_where_that_is_is_said(
+    shelved: Desk, tmp_path: Path
+) -> None:
+    desk, message = shelved, shelved.window.message
+    desk.path.rename(desk.path.with_name("other.braildesk"))
+    desk.act("strike")
+    assert desk.is_closed
+    (text := tmp_path / "tides.txt").write_text("One.\n")
+    desk.say("")
+    desk.window.dropped.emit(text)
+    saved = desk.path.with_name(f"{desk.path.name}-saved-1")
+    assert message.text == (
+        f"The book is closed: Its file isn't at “{desk.path}” any more. All of the book is in"
+        f" “{saved}”, which scribe window opens."
+    )
+
+
 def test_letters_that_are_taken_away_again_wait_nowhere_for_a_book_that_is_gone(
     shelved: Desk, stays: list[str]
 ) -> None:

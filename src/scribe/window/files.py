@@ -176,6 +176,9 @@ class Files:
         desk = self.desk
         if not desk.settle():
             return
+        if desk.is_closed:
+            # its file may be gone, which isn't looked at then
+            raise Stop(desk.closed)
         after: After = desk.number if desk.number is not None else "end"
         table = desk.table_of_new()
         job = Import(
