@@ -1,12 +1,12 @@
 """What is typed for a line of a dialog before that has the keyboard: it comes into the line, in its order."""
 
 import signal
-from collections.abc import Sequence
+from collections.abc import Iterator, Sequence
 from pathlib import Path
 
 import pytest
 from PyQt6.QtCore import QCoreApplication, QEvent, Qt, QTimer
-from PyQt6.QtGui import QKeyEvent
+from PyQt6.QtGui import QInputMethodEvent, QKeyEvent
 from PyQt6.QtWidgets import QApplication, QDialog, QMainWindow
 
 from braildesk.desk.drafts import Drafts
@@ -73,12 +73,34 @@ def test_what_hands_type_for_lines_before_they_are_there_comes_into_each(
     window.says("Nothing was changed.")
 
 
+@pytest.fixture
+def held(application: QApplication) -> Iterator[Held]:
+    """What is pressed while a window waits."""
+    found = Held()
+    yield found
+    found.stop()
+
+
+@pytest.fixture
+def window(application: QApplication) -> Iterator[QMainWindow]:
+    """A window beneath dialogs."""
+    found = QMainWindow()
+    found.show()
+    yield found
+    found.close()
+
+
+def _pressed(key: int) -> Iterator[QKeyEvent]:
+    """A key that is pressed and let go."""
+    text = chr(key).lower() if key <= ord("Z") else ""
+    for kind in (QEvent.Type.KeyPress, QEvent.Type.KeyRelease):
+        yield QKeyEvent(kind, key, Qt.KeyboardModifier.NoModifier, text)
+
+
 def test_keys_that_a_screen_reader_hands_on_beneath_a_line_come_into_it(
-    application: QApplication,
+    held: Held, window: QMainWindow
 ) -> None:
     """It has them from when they were pressed, and hands each on to the window in which that was."""
-    held, window = Held(), QMainWindow()
-    window.show()
     keys = [*map(ord, "SAE"), *[Qt.Key.Key_Backspace] * 2, *map(ord, "EA")]
     timer, last = QTimer(), QTimer()
 
@@ -90,16 +112,31 @@ def test_keys_that_a_screen_reader_hands_on_beneath_a_line_come_into_it(
         last.timeout.connect(dialog.reject)
         last.start(int(PATIENCE_SECONDS * 1000))
         for key in (*keys, Qt.Key.Key_Return):
-            text = chr(key).lower() if key < ord("Z") else ""
-            for kind in (QEvent.Type.KeyPress, QEvent.Type.KeyRelease):
-                event = QKeyEvent(kind, key, Qt.KeyboardModifier.NoModifier, text)
+            for event in _pressed(key):
                 QCoreApplication.postEvent(window.windowHandle(), event)
 
     timer.timeout.connect(hand_on)
     timer.start(1)
-    try:
-        assert dialogs.text(window, "Find", "Words:", "moon") == "sea"
-    finally:
-        last.stop()
-        held.stop()
-        window.close()
+    assert dialogs.text(window, "Find", "Words:", "moon") == "sea"
+    last.stop()
+
+
+@pytest.mark.parametrize("is_by_method", [False, True])
+def test_what_came_before_a_dialog_comes_into_its_first_line_from_its_first_letter_on(
+    held: Held, window: QMainWindow, is_by_method: bool
+) -> None:
+    def typed() -> None:
+        with held.holding():
+            if is_by_method:
+                whole = QInputMethodEvent()
+                whole.setCommitString("sea")
+                QCoreApplication.sendEvent(window, whole)
+            for key in (*(() if is_by_method else map(ord, "SEA")), Qt.Key.Key_Return):
+                for event in _pressed(key):
+                    QCoreApplication.sendEvent(window.windowHandle(), event)
+
+    typed()
+    assert dialogs.folder(window, "Export", "The folder:", "pages") == "sea"
+    typed()
+    lines = ("Words:", "Their place:"), ("moon", ""), ("Only whole words",)
+    assert dialogs.fields(window, "Change", *lines) == (["sea", ""], [False])

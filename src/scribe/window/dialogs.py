@@ -636,6 +636,8 @@ def fields(
         column.addWidget(box)
     column.addWidget(_ok_or_cancel(dialog))
     lines[0].selectAll()
+    # at once, since what came before is typed before the dialog has the keyboard
+    lines[0].setFocus()
     _fit(dialog, _WIDTH)
     take_what_came(dialog)
     with _back_to(over, dialog):
@@ -708,6 +710,8 @@ def folder(over: QWidget, title: str, asked: str, first: str) -> str | None:
     column = QVBoxLayout(dialog)
     for part in (label, line, buttons):
         column.addWidget(part)
+    # as above
+    line.setFocus()
     _fit(dialog, _FOLDER_WIDTH)
     take_what_came(dialog)
     with _back_to(over, dialog):
