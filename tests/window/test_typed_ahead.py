@@ -14,7 +14,7 @@ from braildesk.desk.drafts import Drafts
 from scribe.window import dialogs
 from scribe.window.held import Held
 
-from conftest import Open
+from conftest import Open, wait
 from reader import PATIENCE_SECONDS
 
 _FOUND = "Paragraph 3, character 17."
@@ -97,20 +97,33 @@ def _pressed(key: int) -> Iterator[QKeyEvent]:
         yield QKeyEvent(kind, key, Qt.KeyboardModifier.NoModifier, text)
 
 
+@pytest.fixture
+def patient(application: QApplication) -> Iterator[None]:
+    """Closes a dialog that nothing closes."""
+
+    def close() -> None:
+        if isinstance(dialog := QApplication.activeModalWidget(), QDialog):
+            dialog.reject()
+
+    timer = QTimer()
+    timer.timeout.connect(close)
+    timer.start(int(PATIENCE_SECONDS * 1000))
+    yield
+    timer.stop()
+
+
+@pytest.mark.usefixtures("patient")
 def test_keys_that_a_screen_reader_hands_on_beneath_a_line_come_into_it(
     held: Held, window: QMainWindow
 ) -> None:
     """It has them from when they were pressed, and hands each on to the window in which that was."""
     keys = [*map(ord, "SAE"), *[Qt.Key.Key_Backspace] * 2, *map(ord, "EA")]
-    timer, last = QTimer(), QTimer()
+    timer = QTimer()
 
     def hand_on() -> None:
-        dialog = QApplication.activeModalWidget()
-        if not isinstance(dialog, QDialog):
+        if QApplication.activeModalWidget() is None:
             return
         timer.stop()
-        last.timeout.connect(dialog.reject)
-        last.start(int(PATIENCE_SECONDS * 1000))
         for key in (*keys, Qt.Key.Key_Return):
             for event in _pressed(key):
                 QCoreApplication.postEvent(window.windowHandle(), event)
@@ -118,7 +131,6 @@ def test_keys_that_a_screen_reader_hands_on_beneath_a_line_come_into_it(
     timer.timeout.connect(hand_on)
     timer.start(1)
     assert dialogs.text(window, "Find", "Words:", "moon") == "sea"
-    last.stop()
 
 
 @pytest.mark.parametrize("is_by_method", [False, True])
@@ -140,3 +152,30 @@ def test_what_came_before_a_dialog_comes_into_its_first_line_from_its_first_lett
     typed()
     lines = ("Words:", "Their place:"), ("moon", ""), ("Only whole words",)
     assert dialogs.fields(window, "Change", *lines) == (["sea", ""], [False])
+
+
+class _Finding(QMainWindow):
+    """A window in which a key asks for words, which come before the line for them is there."""
+
+    found: str | None = ""
+
+    def keyPressEvent(self, event: QKeyEvent | None) -> None:
+        """Asks for words."""
+        for key in (*map(ord, "SEA"), Qt.Key.Key_Return):
+            for each in _pressed(key):
+                QCoreApplication.postEvent(self.windowHandle(), each)
+        self.found = dialogs.text(self, "Find", "Words:")
+
+
+@pytest.mark.usefixtures("patient")
+def test_what_comes_after_a_key_that_was_held_itself_comes_into_its_line(
+    application: QApplication, held: Held
+) -> None:
+    window = _Finding()
+    window.show()
+    with held.holding():
+        for event in _pressed(ord("F")):
+            QCoreApplication.sendEvent(window.windowHandle(), event)
+    assert wait(application, PATIENCE_SECONDS, lambda: window.found != "")
+    assert window.found == "sea"
+    window.close()

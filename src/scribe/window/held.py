@@ -63,7 +63,7 @@ class Held(QObject):
         super().__init__()
         # each with the dialog over the window as it came
         self._events: deque[tuple[QWidget | None, QObject, QEvent]] = deque()
-        # whether all of it came after the key that is obeyed, or in a line that this opened
+        # whether all text of it came after the key that is obeyed, or in a line that this opened
         self._is_ahead = True
         self._waits = 0
         # the dialog over the window as the wait began
@@ -207,7 +207,7 @@ class Held(QObject):
         self._events.popleft()
         # each in a turn of its own, so that a dialog which it opens isn't waited for by the next one
         self._soon.start()
-        self._is_ahead = self._is_ahead and is_line or not self._events
+        self._is_ahead = self._is_ahead and is_line or not self.text
         self._obeyed = event
         is_text = event.type() == _KINDS.InputMethod
         its: QObject | None = QGuiApplication.focusObject() if is_text else to
