@@ -14,10 +14,13 @@ from braildesk.desk.drafts import Drafts
 from scribe.window import dialogs
 from scribe.window.held import Held
 
+import test_held
 from conftest import Open, wait
 from reader import PATIENCE_SECONDS
 
 _FOUND = "Paragraph 3, character 17."
+_RETURN, _CONTROL = 0xFF0D, 0xFFE3
+late = test_held.late
 
 
 @pytest.mark.parametrize(
@@ -71,6 +74,18 @@ def test_what_hands_type_for_lines_before_they_are_there_comes_into_each(
     window.press("Escape")
     window.no_dialog()
     window.says("Nothing was changed.")
+
+
+def test_what_a_screen_reader_hears_of_late_comes_into_the_line_for_which_it_is_typed(
+    late: None, moon: Path, at: Open
+) -> None:
+    window = at(moon)
+    window.program.send_signal(signal.SIGSTOP)
+    test_held.press_at_once([*map(ord, "fsea"), _RETURN], _CONTROL)
+    window.program.send_signal(signal.SIGCONT)
+    window.says(_FOUND)
+    window.no_dialog()
+    assert not Drafts(moon).given_up()
 
 
 @pytest.fixture
