@@ -95,8 +95,11 @@ def _is_of_another(descriptor: int) -> bool:
         return False
 
 
-def open_file(path: StrPath, more: int = 0) -> BinaryIO:
-    """A file, open for reading, as more flags may say; ``NoFile`` if it is none."""
+def open_file(path: StrPath, more: int = 0, folder: int | None = None) -> BinaryIO:
+    """A file, open for reading, as more flags may say; ``NoFile`` if it is none.
+
+    Its path begins in a folder that is open, if one is said.
+    """
     if "\0" in fspath(path):
         raise NoFile("no path has the character U+0000")
     number = _descriptor(path)
@@ -104,8 +107,8 @@ def open_file(path: StrPath, more: int = 0) -> BinaryIO:
         # what this process has open there is nothing that somebody knows of
         missing = errno.ENOENT
         raise FileNotFoundError(missing, os.strerror(missing), fspath(path))
-    _judge(os.stat(path).st_mode, path)
-    descriptor = os.open(path, _READ | more)
+    _judge(os.stat(path, dir_fd=folder).st_mode, path)
+    descriptor = os.open(path, _READ | more, dir_fd=folder)
     try:
         # what has been put there in this moment
         _judge(os.fstat(descriptor).st_mode, path)
@@ -124,14 +127,14 @@ def read_file(path: StrPath, most: int) -> bytes:
         return _read(file, path, most)
 
 
-def read_file_there(path: StrPath, most: int) -> bytes:
+def read_file_there(path: StrPath, most: int, folder: int | None = None) -> bytes:
     """The bytes of the file that has a name itself, and not of one to which a link there leads.
 
     ``Changing`` if the name is that of another one once they are read.
     """
-    with open_file(path, os.O_NOFOLLOW) as file:
+    with open_file(path, os.O_NOFOLLOW, folder) as file:
         data = _read(file, path, most)
-        found = os.stat(path, follow_symlinks=False)
+        found = os.stat(path, dir_fd=folder, follow_symlinks=False)
         if not os.path.samestat(found, os.fstat(file.fileno())):
             raise _named(Changing(), path)
     return data

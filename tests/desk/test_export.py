@@ -17,9 +17,10 @@ import braildesk
 from braildesk.desk import export
 from braildesk.desk.layout import PageSize
 from braildesk.desk.ranges import PageRange
+from braildesk.desk.whole_file import write_whole
 
 from scribe.words.console import Console
-from scribe.words.export import export_in_words, numbers_in_words
+from scribe.words.export import export_in_words, not_written, numbers_in_words
 from scribe.words.status import Status, Stop, in_sentences
 from strangers import NEEDS_ROOT, as_stranger, in_time, lead_to
 from tool import Ran, scribe
@@ -422,7 +423,7 @@ def test_pages_that_a_stranger_swaps_as_they_are_compared_are_not_said_to_be_unc
         file.symlink_to(private)
 
     def swapped(path: Any, *words: Any, **more: Any) -> int:
-        is_first = path == file and bool(left) and left.pop()
+        is_first = path == file.name and bool(left) and left.pop()
         if is_first and not is_open:
             assert as_stranger(swap) == ""
         found = opened(path, *words, **more)
@@ -437,6 +438,77 @@ def test_pages_that_a_stranger_swaps_as_they_are_compared_are_not_said_to_be_unc
     assert (written.differences, written.changed_file) == (None, None)
     assert file.read_bytes() == private.read_bytes()
     assert not file.is_symlink()
+
+
+@NEEDS_ROOT
+@pytest.mark.parametrize("is_between", [True, False])
+def test_no_volume_comes_into_a_folder_that_a_stranger_puts_in_the_place_of_that_of_the_first(
+    moon: Path, monkeypatch: pytest.MonkeyPatch, is_between: bool
+) -> None:
+    of_volumes(moon)
+    out, private = shared_and_private(moon)
+    out.mkdir()
+    made = export.Export(export.Job(moon, out, PageSize(), 0)).run()
+    assert isinstance(next(made), export.Written)
+    why = (
+        "another program put something else in the place of what was made."
+        f" {out}/moon-2.brf isn't what was exported."
+    )
+
+    def swapped(*words: Any, **more: Any) -> None:
+        assert as_stranger(lambda: put_link(out, private)) == ""
+        write_whole(*words, **more)
+
+    if is_between:
+        assert as_stranger(lambda: put_link(out, private)) == ""
+        why = f"its folder isn't at that path any more. {out}/moon-2.brf is as it was."
+    else:
+        monkeypatch.setattr(export, "write_whole", swapped)
+    with pytest.raises(export.NotWritten) as failed:
+        next(made)
+    assert not_written(failed.value) == (
+        f"Volume 2 could not be written: {why} Volume 1 is new. Volume 3 was not made."
+    )
+    assert files(private) == ["moon-2.brf"]
+    assert (private / "moon-2.brf").read_bytes() == b"mine"
+    later = [] if is_between else ["moon-2.brf"]
+    assert files(out.with_name("aside")) == ["moon-1.brf", *later]
+
+
+@NEEDS_ROOT
+def test_a_link_that_a_stranger_puts_in_the_place_of_a_new_folder_leads_an_export_nowhere(
+    moon: Path, monkeypatch: pytest.MonkeyPatch
+) -> None:
+    out, private = shared_and_private(moon)
+    made = export.Export(export.Job(moon, out, PageSize(), 0))
+    make = made.make_folder
+
+    def swapped() -> bool:
+        is_new = make()
+        assert as_stranger(lambda: put_link(out, private)) == ""
+        return is_new
+
+    monkeypatch.setattr(made, "make_folder", swapped)
+    with pytest.raises(export.NoFolder):
+        list(made.run())
+    assert files(private) == ["moon-2.brf"]
+
+
+def shared_and_private(moon: Path) -> tuple[Path, Path]:
+    """The path of a folder in one where a stranger may write, and a folder with a file of one's own."""
+    shared, private = moon.with_name("shared"), moon.with_name("private")
+    for each in (shared, private):
+        each.mkdir()
+    shared.chmod(0o777)
+    lead_to(shared)
+    (private / "moon-2.brf").write_bytes(b"mine")
+    return shared / "out", private
+
+
+def put_link(out: Path, private: Path) -> None:
+    """Puts a link to another folder in the place of one."""
+    out.rename(out.with_name("aside"))
+    out.symlink_to(private)
 
 
 def test_an_export_opens_no_pipe_of_a_volumes_name(moon: Path) -> None:

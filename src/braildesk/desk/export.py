@@ -1,5 +1,6 @@
 """An export: all volumes of a book as pages for an embosser, each in a file of a folder."""
 
+import errno
 import os
 import re
 from collections.abc import Callable, Iterable, Iterator, Sequence
@@ -19,6 +20,7 @@ from braildesk.held import held, is_at_path, open_file
 from braildesk.named_files import read_file_there
 from braildesk.opening import waited
 from braildesk.protocol.asked import BookFile
+from braildesk.workshop import Swapped
 
 # how often the volumes are read until all are of one version
 TRIES = 3
@@ -221,6 +223,8 @@ class Export:
         self._written: list[int] = []
         #: That of the file from which the volumes were read.
         self._access = Access(0o600)
+        #: The folder, which is held open while files are written, so that they come into no other.
+        self._folder = -1
         #: The files of pages that differ which were written.
         self.changed_files: list[Path] = []
 
@@ -307,7 +311,8 @@ class Export:
         """Makes the folder of the files, which goes again if none was written; raises `NoFolder`."""
         is_new = self.make_folder()
         try:
-            yield
+            with self._held_folder(is_new):
+                yield
         finally:
             if is_new:
                 # a folder with anything in it isn't removed by that
@@ -325,6 +330,32 @@ class Export:
         except (OSError, ValueError) as cause:
             raise NoFolder(self.job.folder, cause) from cause
 
+    @contextmanager
+    def _held_folder(self, is_new: bool) -> Iterator[None]:
+        """Holds the folder of the files open; raises `NoFolder`.
+
+        Where others may rename it they may put any other of this user in its place, or a link to one. No
+        link is followed that was put in the place of a new one.
+        """
+        flags = os.O_PATH | os.O_DIRECTORY | os.O_CLOEXEC
+        try:
+            more = os.O_NOFOLLOW if is_new else 0
+            self._folder = os.open(self.job.folder, flags | more)
+        except OSError as cause:
+            raise NoFolder(self.job.folder, cause) from cause
+        try:
+            yield
+        finally:
+            os.close(self._folder)
+
+    def _has_folder(self) -> bool:
+        """Whether the folder that is held open is at its path still."""
+        try:
+            found = os.stat(self.job.folder)
+        except OSError:
+            return False
+        return os.path.samestat(found, os.fstat(self._folder))
+
     def _compared(
         self, volume: int, pages: bytes
     ) -> tuple[Differences | None, Path | None]:
@@ -332,7 +363,7 @@ class Export:
 
         That is written first: if the volume can't be, it is the same the next time.
         """
-        older = _read(self.job.file(volume))
+        older = _read(self.job.file(volume).name, self._folder)
         if older is None:
             return None, None
         differences = Differences.of(older, pages)
@@ -358,7 +389,11 @@ class Export:
         """
         is_there = os.path.lexists(file)
         try:
-            write_whole(file, pages, access)
+            if not self._has_folder():
+                raise OSError(errno.ESTALE, "its folder isn't at that path any more")
+            write_whole(file, pages, access, held=self._folder)
+            if not self._has_folder():
+                raise Swapped
         except OSError as cause:
             files = self._files(self._written, range(volume + 1, self.volumes + 1))
             raise NotWritten(volume, file, cause, is_there, files, changed) from cause
@@ -445,10 +480,10 @@ def _parted(pages: bytes) -> list[bytes]:
     return [page + b"\f" for page in whole] + ([rest] if rest else [])
 
 
-def _read(file: Path) -> bytes | None:
+def _read(name: str, folder: int) -> bytes | None:
     """The bytes of an older file; none if it is no file, can't be read, or isn't there any more."""
     try:
-        return read_file_there(file, MOST_BYTES)
+        return read_file_there(name, MOST_BYTES, folder)
     except OSError:
         return None
 

@@ -145,8 +145,11 @@ def write_whole(
     data: bytes,
     access: Access = Access(),
     replaces: Replaces | None = None,
+    held: int | None = None,
 ) -> None:
-    """Gives a name these bytes, in place of the file that it named.
+    """Gives a name these bytes, in place of the file that it named, in the folder of its path.
+
+    That is one that is held open, if it is said, whatever is in its place by now.
 
     They are written beside it, in a file whose name begins with a full stop, and are on the disk
     when that file gets the name. If anything fails before that, what had the name is as it was;
@@ -159,7 +162,8 @@ def write_whole(
     if that is asked, unless it is an empty file, as `mktemp` makes one.
     """
     path = path if path.name else path.resolve()
-    folder = os.open(path.parent, os.O_RDONLY | os.O_DIRECTORY | os.O_CLOEXEC)
+    flags = os.O_RDONLY | os.O_DIRECTORY | os.O_CLOEXEC
+    folder = os.open(path.parent if held is None else ".", flags, dir_fd=held)
     try:
         for left in filter(_BESIDE.fullmatch, os.listdir(folder)):
             remove_left(folder, left)
