@@ -59,12 +59,14 @@ def may_be_replaced(asked: AskedOfFile) -> bool:
     try:
         real = asked.real
         # links on the way may lie in any folder
-        return real != os.path.abspath(asked.path) or _is_shared(os.path.dirname(real))
+        return real != os.path.abspath(asked.path) or may_be_swapped(
+            os.path.dirname(real)
+        )
     except (OSError, ValueError):
         return True
 
 
-def _is_shared(folder: str) -> bool:
+def may_be_swapped(folder: str) -> bool:
     """Whether others may write in a folder, or put another one in its place."""
     found = os.stat(folder)
     is_shared = bool(found.st_mode & _OF_OTHERS)

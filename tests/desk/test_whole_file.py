@@ -215,6 +215,33 @@ def test_a_file_that_a_stranger_brings_from_elsewhere_keeps_no_more_than_a_new_o
 
 
 @NEEDS_ROOT
+@pytest.mark.parametrize("shared, wanted", [(0o777, 0o600), (0o1777, 0o644)])
+def test_a_file_in_a_folder_that_a_stranger_may_put_there_keeps_no_more_than_a_new_one_gets(
+    tmp_path: Path, shared: int, wanted: int
+) -> None:
+    folder = tmp_path / "shared"
+    out, public = folder / "out", folder / "public"
+    for each in (folder, out, public):
+        each.mkdir()
+    folder.chmod(shared)
+    lead_to(tmp_path)
+    (public / "pages.brf").write_bytes(b"for all")
+    (public / "pages.brf").chmod(0o644)
+
+    def swap() -> None:
+        out.rename(folder / "aside")
+        public.rename(out)
+
+    may_swap = as_stranger(swap) == ""
+    assert may_swap == (wanted == 0o600)
+    if not may_swap:
+        swap()
+    pages = out / "pages.brf"
+    write_whole(pages, b"private", Access(0o600, os.getegid()))
+    assert (pages.read_bytes(), mode(pages)) == (b"private", wanted)
+
+
+@NEEDS_ROOT
 def test_a_file_to_which_a_stranger_gives_a_second_name_keeps_no_more_than_a_new_one_gets(
     tmp_path: Path,
 ) -> None:

@@ -11,6 +11,7 @@ from dataclasses import dataclass
 from pathlib import Path
 
 from braildesk.desk import Problem
+from braildesk.fenced import may_be_swapped
 from braildesk.opening import (
     LOGS,
     MAGIC,
@@ -335,13 +336,15 @@ def _write(
 
 
 def _is_others(folder: int) -> bool:
-    """Whether others may give a name in a folder to a file of this user.
+    """Whether others may give a name in a folder to a file of this user, or put the folder in its place.
 
-    It may lie in another folder, so that the sticky bit of this one keeps nobody from that.
+    The file may lie in another folder, so that the sticky bit of this one keeps nobody from that.
     """
-    found = os.fstat(folder)
-    is_open = found.st_mode & (stat.S_IWGRP | stat.S_IWOTH) != 0
-    return is_open or found.st_uid not in (0, os.geteuid())
+    try:
+        return may_be_swapped(os.path.realpath(f"/proc/self/fd/{folder}"))
+    except OSError:
+        # others have moved it in this moment, or the system doesn't say where it is
+        return True
 
 
 def _made(name: str, folder: int, mode: int) -> int:
