@@ -123,8 +123,13 @@ def read_file(path: StrPath, most: int) -> bytes:
 
     ``Changing`` if another program writes into the file meanwhile.
     """
-    with open(path, "rb") if is_handed_over(path) else open_file(path) as file:
-        return _read(file, path, most)
+    with opened(path) as file:
+        return read_opened(file, path, most)
+
+
+def opened(path: StrPath) -> BinaryIO:
+    """A file, or what the shell hands over, open for reading; ``NoFile`` if it is none."""
+    return open(path, "rb") if is_handed_over(path) else open_file(path)
 
 
 def read_file_there(path: StrPath, most: int, folder: int | None = None) -> bytes:
@@ -133,7 +138,7 @@ def read_file_there(path: StrPath, most: int, folder: int | None = None) -> byte
     ``Changing`` if the name is that of another one once they are read.
     """
     with open_file(path, os.O_NOFOLLOW, folder) as file:
-        data = _read(file, path, most)
+        data = read_opened(file, path, most)
         found = os.stat(path, dir_fd=folder, follow_symlinks=False)
         if not os.path.samestat(found, os.fstat(file.fileno())):
             raise _named(Changing(), path)
@@ -154,8 +159,8 @@ def data_in(file: int) -> Iterator[tuple[int, int]]:
         yield place, stop
 
 
-def _read(file: BinaryIO, path: StrPath, most: int) -> bytes:
-    """The bytes of an open file."""
+def read_opened(file: BinaryIO, path: StrPath, most: int) -> bytes:
+    """The bytes of an open file, as ``read_file`` reads those of the one at a path."""
     if file.isatty():
         # its keys may be those of a screen, on which nothing ends a text
         raise _named(NoFile("it is a terminal and no file"), path)

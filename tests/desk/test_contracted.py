@@ -9,6 +9,7 @@ import sys
 from argparse import Namespace
 from collections import Counter
 from collections.abc import Iterable, Mapping, Sequence
+from contextlib import ExitStack
 from io import BytesIO, StringIO
 from itertools import product
 from pathlib import Path
@@ -18,6 +19,8 @@ import pytest
 
 from braildesk import Session
 import braildesk
+from braildesk.desk import manuscripts
+from braildesk.desk.documents.kinds import ManuscriptKind, kind_of
 from braildesk.desk.own_folder import OwnFolder
 from braildesk.tables import Table, read
 from braildesk.tables.convert import making, tailoring
@@ -59,6 +62,7 @@ from scribe.cli.commands import bring as bring_command
 from scribe.cli.commands import tune as tune_command
 from scribe.words.console import Console
 from scribe.words.status import Status
+from strangers import NEEDS_ROOT, as_stranger, lead_to
 from tool import environment, scribe
 
 SMALL = """\
@@ -738,6 +742,49 @@ def test_a_table_for_a_text_that_is_gone_by_then_is_written_for_those_who_might_
     assert bring_command._for_manuscript(made, its, console) is Status.DONE
     assert errors.getvalue().splitlines()[-1].startswith(f"{table} was written, ")
     assert stat.S_IMODE(table.stat().st_mode) == 0o600
+
+
+@NEEDS_ROOT
+def test_a_table_for_a_text_is_for_those_of_the_text_that_was_read_where_a_stranger_swaps_it(
+    tmp_path: Path, monkeypatch: pytest.MonkeyPatch
+) -> None:
+    shared = tmp_path / "shared"
+    shared.mkdir()
+    shared.chmod(0o777)
+    lead_to(shared)
+    text, public = shared / "text.txt", shared / "public.txt"
+    for file, words, mode in ((text, "that bath", 0o600), (public, "the", 0o644)):
+        file.write_text(words)
+        file.chmod(mode)
+
+    def swap() -> None:
+        text.rename(shared / "kept.txt")
+        public.rename(text)
+
+    def swapped(*words: Any) -> ManuscriptKind:
+        assert as_stranger(swap) == ""
+        return kind_of(*words)
+
+    monkeypatch.setattr(manuscripts, "kind_of", swapped)
+    console = Console(BytesIO(), StringIO(), StringIO())
+    found, access = bring_command._manuscript(text, console)
+    assert (list(found.paragraphs), access.mode) == (["that bath"], 0o600)
+
+
+@pytest.mark.parametrize("is_open", [False, True])
+@pytest.mark.parametrize("mode", [0o600, 0o640, 0o644])
+def test_a_table_for_a_book_is_for_those_who_may_read_the_book(
+    book: Path, mode: int, is_open: bool
+) -> None:
+    with Session(book) as session:
+        session.add_paragraph("end", "en", "that bath")
+    book.chmod(mode)
+    console = Console(BytesIO(), StringIO(), StringIO())
+    with ExitStack() as stack:
+        if is_open:
+            stack.enter_context(Session(book))
+        found, access = bring_command._manuscript(book, console)
+    assert (list(found.paragraphs), access.mode) == (["that bath"], mode)
 
 
 def test_a_table_is_made_for_the_paragraphs_of_a_book_that_stand(

@@ -1,5 +1,6 @@
 """Manuscripts of any kind, read as the paragraphs of a book: documents, texts, and books."""
 
+import os
 from collections.abc import Iterator
 from dataclasses import dataclass, replace
 from itertools import takewhile
@@ -27,7 +28,15 @@ from braildesk.desk.manuscript import (
 from braildesk.desk.import_note import How
 from braildesk.desk.readings import prints
 from braildesk.desk.replacements import Replaced, Replacer
-from braildesk.named_files import TooLarge, is_handed_over, open_file, read_file
+from braildesk.desk.whole_file import Access
+from braildesk.named_files import (
+    TooLarge,
+    is_handed_over,
+    open_file,
+    opened,
+    read_file,
+    read_opened,
+)
 from braildesk.protocol.sentences import LOOKED_AT_BY_COPY
 from braildesk.protocol.value import Value
 from braildesk.text import limits
@@ -56,17 +65,35 @@ def read_manuscript(
     it is a book that can't be opened. In a text blank lines part the paragraphs. If nothing parts
     them, so that one is longer than any of a book, each of its lines is a paragraph.
     """
+    return read_with_access(path, reading, wait)[0]
+
+
+def read_with_access(
+    path: Path, reading: ReadingOptions = ReadingOptions(), wait: float = 0.0
+) -> tuple["Manuscript", Access]:
+    """The same, and the access of the file that was read: another one may be at its path by then."""
     try:
-        if reading.kind is None and not is_handed_over(path) and _is_book(path):
-            data = None
-        else:
-            data = read_bytes(path)
+        data, access = _contents(path, reading)
     except OSError as cause:
         raise UnreadableFile(cause) from cause
     if data is None:
         return _of_book(path, wait)
     kind = reading.kind or kind_of(path.name, data)
-    return manuscript_of(data, kind, reading, path.name)
+    return manuscript_of(data, kind, reading, path.name), access
+
+
+def _contents(path: Path, reading: ReadingOptions) -> tuple[bytes | None, Access]:
+    """The bytes of a manuscript, none if it is a book, and the access of its file."""
+    with opened(path) as file:
+        access = Access.of(file.fileno())
+        if is_handed_over(path):
+            return read_opened(file, path, limits.TEXT_BYTES), access
+        front = _seen(file.fileno())
+        if reading.kind is None and front == _BOOK:
+            return None, access
+        is_document = is_container(front)
+        most = limits.DOCUMENT_BYTES if is_document else limits.TEXT_BYTES
+        return read_opened(file, path, most), access
 
 
 def manuscript_of(
@@ -158,11 +185,16 @@ def _front(path: Path) -> bytes:
         return file.read(len(_BOOK))
 
 
-def _is_book(path: Path) -> bool:
-    return _front(path) == _BOOK
+def _seen(file: int) -> bytes:
+    """How an open file begins, of which nothing is read by that; nothing where it isn't seen."""
+    try:
+        return os.pread(file, len(_BOOK), 0)
+    except OSError:
+        # as of what the system says in a file
+        return b""
 
 
-def _of_book(path: Path, wait: float) -> "Manuscript":
+def _of_book(path: Path, wait: float) -> tuple["Manuscript", Access]:
     """A book as it is read; `Failed` if its session is lost, which isn't that of any other book."""
     try:
         return _of_open_book(path, wait)
@@ -172,7 +204,7 @@ def _of_book(path: Path, wait: float) -> "Manuscript":
         raise Failed(said) from lost
 
 
-def _of_open_book(path: Path, wait: float) -> "Manuscript":
+def _of_open_book(path: Path, wait: float) -> tuple["Manuscript", Access]:
     """A book, or a copy of it where it can't be opened: what another program had kept a moment ago."""
     try:
         session = Session(path, timeout=wait)
@@ -183,14 +215,15 @@ def _of_open_book(path: Path, wait: float) -> "Manuscript":
         from braildesk.snapshot import copied_session
 
         with copied_session(path) as (session, _):
-            found = _of_session(session)
+            found, access = _of_session(session)
             is_used = refusal.why is Why.IN_USE
-            return replace(found, kept_at=session.last_version if is_used else None)
+            kept_at = session.last_version if is_used else None
+            return replace(found, kept_at=kept_at), access
     with session:
         return _of_session(session)
 
 
-def _of_session(session: Session) -> "Manuscript":
+def _of_session(session: Session) -> tuple["Manuscript", Access]:
     from braildesk.desk.documents.reading import Manuscript, Part
 
     book = [each for each in session.paragraphs() if not each.struck]
@@ -198,7 +231,15 @@ def _of_session(session: Session) -> "Manuscript":
         Part(text, 1 if each.style is Style.HEADING else None)
         for each, text in zip(book, prints(session, book))
     )
-    return Manuscript(ManuscriptKind.BOOK, parts)
+    return Manuscript(ManuscriptKind.BOOK, parts), _access_of(session)
+
+
+def _access_of(session: Session) -> Access:
+    """The access of the file of a session; its owner's alone where that isn't held beside the program."""
+    try:
+        return Access.read_by(session.pid, session.fileno())
+    except (OSError, ValueError):
+        return Access(0o600)
 
 
 def _texts(passage: Passage) -> Iterator[str]:

@@ -5,7 +5,7 @@ from pathlib import Path
 
 from braildesk.desk.contracted import means_for
 from braildesk.desk.manuscript import UnreadableText
-from braildesk.desk.manuscripts import read_manuscript
+from braildesk.desk.manuscripts import read_with_access
 from braildesk.desk.whole_file import (
     Access,
     AnotherIsThere,
@@ -226,7 +226,7 @@ def _for_manuscript(table: Path, arguments: Namespace, console: Console) -> Stat
 def _manuscript(path: Path, console: Console) -> tuple[Manuscript, Access]:
     """A manuscript, and who may read it: it may be gone by the time at which the table is made."""
     try:
-        found, access = read_manuscript(path), Access.of(path)
+        found, access = read_with_access(path)
     except UnreadableText as cause:
         why = unreadable(cause).replace(", and import it again", "")
         raise Stop(f"{path} {why}.") from cause
