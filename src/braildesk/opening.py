@@ -423,8 +423,13 @@ def are_kept(path: str, file: BinaryIO) -> bool:
 
 def is_used(file: BinaryIO | int) -> bool:
     """Whether a program uses the file, or reads it with a shared lock."""
+    return _lock_of(file) != fcntl.F_UNLCK
+
+
+def _lock_of(file: BinaryIO | int) -> int:
+    """The kind of the lock that somebody else has of a file."""
     found: bytes = fcntl.fcntl(file, fcntl.F_OFD_GETLK, _lock(fcntl.F_WRLCK))
-    return bool(_LOCK.unpack(found)[0] != fcntl.F_UNLCK)
+    return int(_LOCK.unpack(found)[0])
 
 
 def is_log_used(log: str) -> bool:
@@ -439,6 +444,23 @@ def is_log_used(log: str) -> bool:
             if time.monotonic() > until:
                 return True
             time.sleep(_LEAVING / 10)
+    return False
+
+
+def is_log_another(path: str, log: str) -> bool:
+    """Whether a session has a file open, but not the log beside it, if that can be seen.
+
+    It has another log then, which was beside the file when it opened both. Who only reads the file has a
+    shared lock of that alone.
+    """
+    flags = os.O_RDONLY | os.O_NOFOLLOW | os.O_NONBLOCK | os.O_CLOEXEC
+    until = time.monotonic() + _LEAVING
+    with suppress(OSError), open(os.open(log, flags), "rb") as beside:
+        with open(os.open(path, flags), "rb") as file:
+            while not is_used(beside) and _lock_of(file) == fcntl.F_WRLCK:
+                if time.monotonic() > until:
+                    return True
+                time.sleep(_LEAVING / 10)
     return False
 
 

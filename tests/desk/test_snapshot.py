@@ -29,11 +29,12 @@ from braildesk import (
 from braildesk import snapshot as own
 from braildesk.files import contents
 from braildesk.held import copy_held
-from braildesk.opening import has_work
+from braildesk.opening import has_work, take_shared
 from braildesk.protocol.asked import BookFile
 from braildesk.protocol.requests import Correct, Restore, Strike
 from braildesk.snapshot import copied_session, snapshot
 
+from scribe.cli.opened_book import without_log
 from strangers import NEEDS_ROOT, STRANGER, as_stranger, lead_to
 from tool import scribe
 
@@ -206,7 +207,7 @@ def test_of_an_open_book_whose_log_was_removed_it_is_said_that_the_newest_may_be
         shown = scribe("show", moon.name, folder=moon.parent, COLUMNS="400")
         copied = scribe("copy", moon.name, "other", folder=moon.parent, COLUMNS="400")
     assert shown.said == (
-        f"Another program has {moon.name} open. {missing} This is what the file has, at version"
+        f"Another program has {moon.name} open. {missing} This is what is there, at version"
         f" {before}.\n"
     )
     assert (copied.status, copied.said) == (
@@ -214,6 +215,50 @@ def test_of_an_open_book_whose_log_was_removed_it_is_said_that_the_newest_may_be
         f"Another program has {moon.name} open, and goes on with it. {missing}\n",
     )
     assert check(moon) == before + 1
+
+
+@NEEDS_ROOT
+@pytest.mark.parametrize("is_older", [False, True])
+def test_of_an_open_book_whose_log_a_stranger_replaced_it_is_said_that_the_newest_may_be_missing(
+    moon: Path, is_older: bool
+) -> None:
+    log, older = Path(f"{moon}-wal"), moon.with_name("older")
+    moon.parent.chmod(0o777)
+    lead_to(moon)
+
+    def replace() -> None:
+        log.rename(moon.with_name("aside"))
+        older.rename(log) if is_older else log.touch()
+
+    before = check(moon)
+    missing = (
+        "That program doesn't have the log open that is beside the book, so what it kept last may be"
+        " missing."
+    )
+    with Session(moon) as session:
+        session.strike(2)
+        shutil.copyfile(log, older)
+        session.restore(2)
+        assert as_stranger(replace) == ""
+        shown = scribe("show", moon.name, folder=moon.parent, COLUMNS="400")
+        copied = scribe("copy", moon.name, "other", folder=moon.parent, COLUMNS="400")
+    version = before + is_older
+    assert shown.said == (
+        f"Another program has {moon.name} open. {missing} This is what is there, at version {version}.\n"
+    )
+    assert (copied.status, copied.said) == (
+        0,
+        f"Another program has {moon.name} open, and goes on with it. {missing}\n",
+    )
+
+
+def test_of_a_book_that_a_program_only_reads_nothing_is_said_of_its_log(
+    moon: Path,
+) -> None:
+    Path(f"{moon}-wal").touch()
+    with open(moon, "rb") as file:
+        assert take_shared(file)
+        assert without_log(moon) == ""
 
 
 def test_what_is_made_of_a_book_that_is_open_is_for_those_on_its_list_of_access(

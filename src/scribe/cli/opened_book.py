@@ -19,7 +19,8 @@ from braildesk import (
 from braildesk.beginning import Beginning
 from braildesk.desk import USUAL_WAIT
 from braildesk.desk.places import ManyPlaces
-from braildesk.protocol.asked import log_path
+from braildesk.opening import is_log_another
+from braildesk.protocol.asked import BookFile
 from braildesk.protocol.sentences import LOOKED_AT_BY_COPY
 from braildesk.session import session_of
 from braildesk.text.excerpt import excerpt_lines
@@ -157,7 +158,7 @@ def as_kept(book: Path, version: int) -> str:
     """What is said of a book that is looked at while another program has it open."""
     if missing := without_log(book):
         return (
-            f"Another program has {book} open. {missing} This is what the file has, at version"
+            f"Another program has {book} open. {missing} This is what is there, at version"
             f" {version:,}."
         )
     return (
@@ -167,13 +168,21 @@ def as_kept(book: Path, version: int) -> str:
 
 
 def without_log(book: Path) -> str:
-    """What is said where no log is beside a book that a program has open; nothing where one is.
+    """What is said where a book that a program has open is without that program's log; else nothing.
 
     Each session makes one at once, and keeps there what is typed.
     """
-    if os.path.lexists(log_path(os.fspath(book))):
-        return ""
-    return "No log is beside the book, so what that program kept last may be missing."
+    its = BookFile.of(book)
+    if not os.path.lexists(its.log):
+        return (
+            "No log is beside the book, so what that program kept last may be missing."
+        )
+    if is_log_another(its.real, its.log):
+        return (
+            "That program doesn't have the log open that is beside the book, so what it kept last may be"
+            " missing."
+        )
+    return ""
 
 
 @contextmanager
