@@ -6,6 +6,7 @@ import shutil
 import signal
 import tempfile
 from collections.abc import Callable, Iterator
+from concurrent.futures import ThreadPoolExecutor
 from pathlib import Path
 from typing import Any
 
@@ -748,6 +749,31 @@ def test_another_book_that_is_put_there_by_an_import_s_end_is_not_taken_for_the_
     sat.press("enter")
     assert sat.state.message.startswith("The file that is at the path now is open.")
     assert [each.id for each in sat.state.book] == [1]
+
+
+def test_an_import_ends_at_once_by_a_signal_while_its_document_is_read(
+    moon: Path, sit: Sit, monkeypatch: pytest.MonkeyPatch
+) -> None:
+    queue, text = moon.with_name("queue"), moon.with_name("text.html")
+    os.mkfifo(queue)
+    slow = moon.with_name("pandoc")
+    slow.write_text(f"#!/bin/sh\necho > {queue}\nexec sleep 60\n")
+    slow.chmod(0o755)
+    monkeypatch.setenv("PATH", f"{slow.parent}:{os.environ['PATH']}")
+    text.write_text("<p>The sun</p>")
+    sat = sit(moon)
+    sat.press("i", *str(text), "enter")
+
+    def stopped() -> None:
+        queue.read_bytes()
+        sat.desk.stop(signal.SIGTERM)
+
+    with ThreadPoolExecutor() as beside:
+        beside.submit(stopped)
+        sat.state = sat.desk.away(sat.state, lambda line: None)
+    said = "Stopped by SIGTERM. Nothing was typed."
+    assert sat.state.pages == Pages("Import.", (said,))
+    assert len(sat.state.book) == 3
 
 
 def test_what_is_kept_of_an_import_is_said_also_if_another_program_has_the_book_then(

@@ -73,7 +73,8 @@ class Import(Value):
     replacements: Path | None = None
     #: What is called each second in which the program doesn't answer.
     while_waiting: Callable[[], None] = lambda: None
-    #: Raises what ends the import, and is called while a table is asked for its braille.
+    #: Raises what ends the import, and is called while a document is read and a table is asked for its
+    #: braille.
     check: Callable[[], None] = lambda: None
     #: The file that a screen had open until now. Nobody else is to have it from the first moment on.
     held: HeldFile | None = None
@@ -496,7 +497,7 @@ def _parted(
 def _taken(job: Import, data: bytes) -> Taken:
     """What is read of a manuscript."""
     try:
-        found = taken(data, job.by_lines, job.how, job.text.name)
+        found = taken(data, job.by_lines, job.how, job.text.name, job.check)
     except UnreadableText as cause:
         raise NoText(job.text, cause) from cause
     if not found.passages:

@@ -1,7 +1,7 @@
 """Manuscripts of any kind, read as the paragraphs of a book: documents, texts, and books."""
 
 import os
-from collections.abc import Iterator
+from collections.abc import Callable, Iterator
 from dataclasses import dataclass, replace
 from itertools import takewhile
 from pathlib import Path
@@ -123,10 +123,16 @@ class Taken(Value):
     data: bytes = b""
 
 
-def taken(data: bytes, by_lines: bool, how: How, name: str) -> Taken:
+def taken(
+    data: bytes,
+    by_lines: bool,
+    how: How,
+    name: str,
+    check: Callable[[], None] = lambda: None,
+) -> Taken:
     """The paragraphs of the bytes of a document of some name or of a text, as they are typed.
 
-    Raises `UnreadableText`.
+    Raises `UnreadableText`. What the check raises ends the reading of a document.
     """
     kind = how.reading.kind or ManuscriptKind.TEXT
     replacer = Replacer(how.replacements)
@@ -138,7 +144,7 @@ def taken(data: bytes, by_lines: bool, how: How, name: str) -> Taken:
     from braildesk.desk.documents.document import read_document
 
     try:
-        document = read_document(data, kind, how.reading, name)
+        document = read_document(data, kind, how.reading, name, check)
     except NoDocument as fault:
         if fault.why is WhyNot.DAMAGED and not is_of_kind(name, data, kind):
             raise NoDocument(WhyNot.OTHER_KIND) from fault

@@ -43,6 +43,7 @@ from braildesk.desk.documents.notes import with_notes
 from braildesk.desk.documents.numbers import with_numbers
 from braildesk.desk.documents.numbers_of_odt import with_odt_numbers
 from braildesk.desk.documents.options import ReadingOptions
+from braildesk.desk.documents.pandoc import Check
 from braildesk.desk.documents.reading import (
     Loss,
     LossKind,
@@ -52,7 +53,13 @@ from braildesk.desk.documents.reading import (
     parting,
     short_enough,
 )
-from braildesk.desk.documents.tree import FAULTS, document, said_beside
+from braildesk.desk.documents.tree import (
+    FAULTS,
+    Document,
+    Node,
+    document,
+    said_beside,
+)
 from braildesk.desk.manuscript import UnreadableText
 
 #: The kinds that are containers.
@@ -70,36 +77,44 @@ def read_document(
     kind: ManuscriptKind,
     reading: ReadingOptions = ReadingOptions(),
     name: str = "",
+    check: Check = lambda: None,
 ) -> Manuscript:
-    """The manuscript that the bytes of a document of some name are; raises `UnreadableText`."""
+    """The manuscript that the bytes of a document of some name are; raises `UnreadableText`.
+
+    What the check raises ends that.
+    """
     is_guess = False
     if kind in _PACKED:
         data = repacked(data)
     if kind in (ManuscriptKind.RTF, ManuscriptKind.DOC):
-        return _by_office(data, kind, reading, name)
+        return _by_office(data, kind, reading, name, check)
     if kind is ManuscriptKind.DOCX:
-        return _read_docx(data, reading)
+        return _read_docx(data, reading, check)
     if kind in (ManuscriptKind.MARKDOWN, ManuscriptKind.HTML):
         is_page = kind is ManuscriptKind.HTML
         text = characters_of_page(data) if is_page else characters_of_text(data)
         is_guess = is_page and is_guessed(data)
         data = pages.with_line_feeds(text).encode()
     if kind is ManuscriptKind.ODT:
-        return _read_odt(data, reading, name)
+        return _read_odt(data, reading, name, check)
     own = contents.contents_of(data, kind)
     if is_guess:
         own.note_guess(own.passages)
-    return _read(data, kind, own, reading)
+    return _read(data, kind, own, reading, check)
 
 
 def _by_office(
-    data: bytes, kind: ManuscriptKind, reading: ReadingOptions, name: str
+    data: bytes,
+    kind: ManuscriptKind,
+    reading: ReadingOptions,
+    name: str,
+    check: Check,
 ) -> Manuscript:
     """A text in RTF or DOC, with the words that LibreOffice leaves out."""
     if kind is ManuscriptKind.DOC and doc_text.is_encrypted(data):
         raise NoDocument(WhyNot.ENCRYPTED)
-    made = pandoc.as_docx(data, kind, name)
-    found = replace(_read_docx(made, reading), kind=kind)
+    made = pandoc.as_docx(data, kind, name, check)
+    found = replace(_read_docx(made, reading, check), kind=kind)
     # what LibreOffice leaves out is in no part of what it makes
     own = contents.contents_of(made, ManuscriptKind.DOCX)
     texts = [*own.passages, *own.edges, *(loss.words for loss in own.losses)]
@@ -125,36 +140,40 @@ def _described(loss: Loss) -> Loss:
     return replace(loss, what=LossKind.DESCRIBED) if is_picture else loss
 
 
-def _read_odt(data: bytes, reading: ReadingOptions, name: str) -> Manuscript:
+def _read_odt(
+    data: bytes, reading: ReadingOptions, name: str, check: Check
+) -> Manuscript:
     """A text in ODT, by DOCX if fewer words are lost so."""
     numbered, losses = with_odt_numbers(data, reading.bullet, reading.brackets)
     own = replace(contents.contents_of(numbered, ManuscriptKind.ODT), numbers=losses)
-    found = _read(numbered, ManuscriptKind.ODT, own, reading)
+    found = _read(numbered, ManuscriptKind.ODT, own, reading, check)
     if any(_lost(found)) and pandoc.office():
         # its numbers are those that LibreOffice gives it
         own = contents.contents_of(data, ManuscriptKind.ODT)
-        otherwise = _by_docx(data, own, reading, name)
+        otherwise = _by_docx(data, own, reading, name, check)
         return min(found, otherwise or found, key=_lost)
     return found
 
 
 def _read_docx(
-    data: bytes, reading: ReadingOptions, own: Contents | None = None
+    data: bytes, reading: ReadingOptions, check: Check, own: Contents | None = None
 ) -> Manuscript:
     """A document in DOCX; what the file has is that of another one, if that was made into it."""
     numbered, losses = with_numbers(data, reading.bullet)
     # its numbers are print of its paragraphs, since one may be one word with what it stands before
     found = own or contents.contents_of(numbered, ManuscriptKind.DOCX)
-    return _read(numbered, ManuscriptKind.DOCX, replace(found, numbers=losses), reading)
+    found = replace(found, numbers=losses)
+    return _read(numbered, ManuscriptKind.DOCX, found, reading, check)
 
 
 def _by_docx(
-    data: bytes, own: Contents, reading: ReadingOptions, name: str
+    data: bytes, own: Contents, reading: ReadingOptions, name: str, check: Check
 ) -> Manuscript | None:
     """A document in ODT as it is read from the DOCX that LibreOffice makes of it, if it does."""
     try:
-        made = pandoc.as_docx(data, ManuscriptKind.ODT, name)
-        return replace(_read_docx(made, reading, own), kind=ManuscriptKind.ODT)
+        made = pandoc.as_docx(data, ManuscriptKind.ODT, name, check)
+        found = _read_docx(made, reading, check, own)
+        return replace(found, kind=ManuscriptKind.ODT)
     except UnreadableText:
         return None
 
@@ -167,11 +186,15 @@ def _lost(manuscript: Manuscript) -> tuple[int, int]:
 
 
 def _read(
-    data: bytes, kind: ManuscriptKind, own: Contents, reading: ReadingOptions
+    data: bytes,
+    kind: ManuscriptKind,
+    own: Contents,
+    reading: ReadingOptions,
+    check: Check,
 ) -> Manuscript:
     """What pandoc reads, compared with what the file has."""
     readable, unmarked = _readable(data, kind)
-    tree, left_out = pandoc.tree(readable, kind)
+    tree, left_out = pandoc.tree(readable, kind, check)
     try:
         if kind is ManuscriptKind.MARKDOWN:
             tree = without_marks(tree)
@@ -184,13 +207,7 @@ def _read(
         raise NoDocument(WhyNot.TOO_DEEP) from fault
     except FAULTS as fault:
         raise NotRead from fault
-    found = document(
-        noted,
-        reading,
-        with_front=kind in _WITH_FRONT,
-        # of ODT, pandoc takes those alone for titles
-        has_titles_below=kind is ManuscriptKind.ODT,
-    )
+    found = _printed(noted, kind, reading)
     passages = _compared(own, kind)
     if kind is ManuscriptKind.MARKDOWN:
         text = data.decode()
@@ -206,6 +223,17 @@ def _read(
     losses = (*found.losses, *own.numbers, *_too_long(found.parts), *own.losses)
     losses += tuple(unmarked)
     return Manuscript(kind, parts, losses, tuple(missing))
+
+
+def _printed(noted: Node, kind: ManuscriptKind, reading: ReadingOptions) -> Document:
+    """The paragraphs of a document of some kind."""
+    return document(
+        noted,
+        reading,
+        with_front=kind in _WITH_FRONT,
+        # of ODT, pandoc takes those alone for titles
+        has_titles_below=kind is ManuscriptKind.ODT,
+    )
 
 
 def _compared(own: Contents, kind: ManuscriptKind) -> list[str]:

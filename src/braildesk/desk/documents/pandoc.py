@@ -13,7 +13,8 @@ import shutil
 import signal
 import subprocess
 import tempfile
-from collections.abc import Iterator, Sequence
+import time
+from collections.abc import Callable, Iterator, Sequence
 from contextlib import contextmanager, suppress
 from io import BytesIO
 from pathlib import Path, PurePath
@@ -43,6 +44,10 @@ from braildesk.desk.documents.rtf_groups import (
 from braildesk.desk.manuscript import UnreadableText
 from braildesk.protocol.sentences import ENDED_BY, of_failure
 
+#: Raises what ends the reading of a document, and is called while a program reads it.
+Check = Callable[[], None]
+#: How many seconds go by between two calls of that.
+_CHECK_SECONDS = 0.2
 #: How many seconds a program is waited for that has less than a hundredth of them of a processor: it waits for
 #: something that never comes, since one that works has more, even where two dozen others want it too.
 _IDLE_SECONDS, _SHARE = 120.0, 100
@@ -120,7 +125,9 @@ def _limit_named(name: str) -> Iterator[None]:
 
 
 @_limit_named("pandoc")
-def tree(data: bytes, kind: ManuscriptKind) -> tuple[dict[str, Any], frozenset[str]]:
+def tree(
+    data: bytes, kind: ManuscriptKind, check: Check
+) -> tuple[dict[str, Any], frozenset[str]]:
     """The tree that pandoc makes of the bytes of a file, and the keys of notes that it may lack."""
     pandoc = shutil.which("pandoc")
     if pandoc is None:
@@ -130,7 +137,7 @@ def tree(data: bytes, kind: ManuscriptKind) -> tuple[dict[str, Any], frozenset[s
     with tempfile.TemporaryFile() as source:
         source.write(data)
         source.seek(0)
-        answered, said = _run("pandoc", words, source, seconds)
+        answered, said = _run("pandoc", words, source, seconds, check)
     try:
         found = json.loads(answered)
     except RecursionError as fault:
@@ -155,7 +162,7 @@ def office() -> str | None:
 
 
 @_limit_named("LibreOffice")
-def as_docx(data: bytes, kind: ManuscriptKind, name: str) -> bytes:
+def as_docx(data: bytes, kind: ManuscriptKind, name: str, check: Check) -> bytes:
     """A document as LibreOffice writes it in DOCX, with its name where fields show that."""
     program = office()
     if program is None:
@@ -170,7 +177,7 @@ def as_docx(data: bytes, kind: ManuscriptKind, name: str) -> bytes:
         settings.write_text(_NO_LINKS, encoding="utf-8")
         words = [program, f"-env:UserInstallation={profile.as_uri()}", "--headless"]
         words += ["--convert-to", "docx", "--outdir", f"{folder}/made", str(source)]
-        _run("LibreOffice", words, None, _MOST_SECONDS)
+        _run("LibreOffice", words, None, _MOST_SECONDS, check)
         made = next(Path(folder, "made").glob("*.docx"), None)
         if made is None:
             raise NotConverted("LibreOffice", "")
@@ -211,11 +218,15 @@ def _named(data: bytes, source: Path, name: str) -> bytes:
 
 
 def _run(
-    name: str, words: Sequence[str], source: IO[bytes] | None, seconds: int
+    name: str,
+    words: Sequence[str],
+    source: IO[bytes] | None,
+    seconds: int,
+    check: Check,
 ) -> tuple[bytes, bytes]:
     """What a program answers, and says beside it, by so many seconds of a processor.
 
-    ``UnreadableText`` if it fails, or is too slow or too large.
+    ``UnreadableText`` if it fails, or is too slow or too large. What the check raises ends it.
     """
     limits = Limits(memory=_MEMORY, seconds=seconds, written=_TREE_BYTES)
     before = _spent_by_ended()
@@ -228,7 +239,7 @@ def _run(
                 stderr=errors,
                 start_new_session=True,
             ) as process:
-                _wait(name, process)
+                _wait(name, process, check)
             output.seek(0)
             errors.seek(0)
             if process.returncode == -signal.SIGKILL:
@@ -247,14 +258,18 @@ def _run(
         raise NotConverted(name, fault.strerror or str(fault)) from fault
 
 
-def _wait(name: str, process: subprocess.Popen[bytes]) -> None:
+def _wait(name: str, process: subprocess.Popen[bytes], check: Check) -> None:
     """Waits for a program to end. If it does nothing any more, or this one is stopped, it is ended."""
-    spent = 0.0
+    spent, until = 0.0, time.monotonic() + _IDLE_SECONDS
     try:
         while True:
             with suppress(subprocess.TimeoutExpired):
-                process.wait(_IDLE_SECONDS)
+                process.wait(_CHECK_SECONDS)
                 return
+            check()
+            if time.monotonic() < until:
+                continue
+            until += _IDLE_SECONDS
             before, spent = spent, _spent(process.pid)
             if spent - before < _IDLE_SECONDS / _SHARE:
                 raise BrokenOff(name, Spent.TIME)
