@@ -82,6 +82,41 @@ def test_what_is_typed_by_hands_is_taken_back_and_is_not_given_up(desk: Desk) ->
     assert desk.window.message.text == ""
 
 
+@pytest.mark.parametrize("act", [None, "new_after"])
+def test_what_was_typed_is_not_lost_where_it_is_taken_back_and_what_was_done_before_too(
+    desk: Desk, act: str | None
+) -> None:
+    desk.act("heading")
+    if act:
+        desk.act(act)
+    _type(desk, "So: ")
+    typed = desk.window.print.text
+    _paste(desk, "one ")
+    for _ in range(2):
+        desk.act("take_back")
+    assert _kept(desk) == ([], "")
+    desk.act("take_back")
+    assert desk.window.print.text == "The Moon"
+    whole = f"So: one {typed.removeprefix('So: ')}"
+    assert desk.window.message.text.endswith(
+        f"What was typed before that is set aside: “{whole}”. Ctrl+B brings it back."
+    )
+    assert _kept(desk) == ([whole], "")
+
+
+def test_what_was_taken_back_is_not_given_up_any_more_once_it_is_typed_again(
+    desk: Desk,
+) -> None:
+    _type(desk, "So: ")
+    for _ in range(2):
+        desk.act("take_back")
+    said = "What was typed before that is set aside: “So: The Moon”."
+    assert said in desk.window.message.text and _kept(desk) == (["So: The Moon"], "")
+    desk.window.print.redo()
+    assert said not in desk.window.message.text
+    assert _kept(desk) == ([], "So: The Moon")
+
+
 def _paste(desk: Desk, text: str) -> None:
     data = QMimeData()
     data.setText(text)

@@ -62,6 +62,7 @@ from scribe.words.drafts import (
     changed_since,
     not_kept,
     typed_at_offer,
+    typed_and_taken_back,
     typed_below,
     typed_meanwhile,
     typed_there,
@@ -135,6 +136,8 @@ class Desk:
     _taken_back: Draft | None = None
     # what is said of that, as long as it is given up
     _of_taken_back = ""
+    # all that was typed, as the first of it was taken back
+    _typed_whole: Draft | None = None
     # the print from which what is typed was typed, where that was another one
     _typed_from: str | None = None
     # what is said to be in the way of keeping what is typed
@@ -1184,19 +1187,19 @@ class Desk:
         self._unlinked()
 
     def _see_put_in(self, text: str) -> None:
-        """Sees whether a text that was put in is typed, which isn't given up any more then."""
+        """Sees whether a text that was put in, or taken back, is typed, which isn't given up any more then."""
         if not self.is_typed():
             self._typed_from = None
         elif text == self._put_in:
             self._typed_from = self._put_in_from
-            draft, taken = self.draft(), self._taken_back
-            if taken is not None and draft is not None:
-                self._taken_back = None
-                self.unsay(self._of_taken_back)
-                take_up = partial(self.unsent.take_up, draft, taken)
-                # what can't be kept is said where it is kept as what waits
-                with suppress(NotKept):
-                    self.aside.result(take_up, False)
+        draft, taken = self.draft(), self._taken_back
+        if taken is not None and draft is not None and text == taken.text:
+            self._taken_back = None
+            self.unsay(self._of_taken_back)
+            take_up = partial(self.unsent.take_up, draft, taken)
+            # what can't be kept is said where it is kept as what waits
+            with suppress(NotKept):
+                self.aside.result(take_up, False)
 
     def _give_up_where_none_is_typed(self) -> None:
         """Gives up what others than hands type in the print where nothing can be typed, and says so."""
@@ -1238,6 +1241,8 @@ class Desk:
     def take_typed_back(self) -> None:
         """Takes back what was typed last. A text that was put in isn't lost by that."""
         before = self.draft()
+        if not self.window.print.may_be_typed_again:
+            self._typed_whole = before
         self.window.print.undo()
         if before is None or self.draft() is not None or before.text != self._put_in:
             return
@@ -1245,6 +1250,16 @@ class Desk:
         said = f"Given up. The book is as it was. {self.put_by(before)}"
         self._of_taken_back = visible(said)
         self.say(said)
+
+    def give_up_taken_back(self) -> None:
+        """Gives up what was typed and taken back, which no key types again once more is taken back."""
+        whole, self._typed_whole = self._typed_whole, None
+        is_there = self.window.print.may_be_typed_again and self._taken_back is None
+        if whole is not None and is_there:
+            self._taken_back = whole
+            said = f"{typed_and_taken_back(whole.text)} {self.put_by(whole)}"
+            self._of_taken_back = visible(said)
+            self.say_after(said)
 
     def settle(self) -> bool:
         """Keeps what is typed; whether nothing is typed any more that the book doesn't have."""

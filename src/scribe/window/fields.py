@@ -288,9 +288,8 @@ class Print(Field):
         if event.type() == QEvent.Type.ShortcutOverride and isinstance(
             event, QKeyEvent
         ):
-            document, kinds = self.document(), QKeySequence.StandardKey
-            assert document is not None
-            is_redo = event.matches(kinds.Redo) and not document.isRedoAvailable()
+            kinds = QKeySequence.StandardKey
+            is_redo = event.matches(kinds.Redo) and not self.may_be_typed_again
             if is_redo or event.matches(kinds.Undo):
                 event.ignore()
                 return False
@@ -306,6 +305,13 @@ class Print(Field):
         document.setModified(False)
         self.textCursor().insertText(text)
         document.setModified(False)
+
+    @property
+    def may_be_typed_again(self) -> bool:
+        """Whether something that was typed was taken back, and is typed again by a key."""
+        document = self.document()
+        assert document is not None
+        return document.isRedoAvailable()
 
     def have_kept(self) -> None:
         """What was typed is kept, and isn't taken back as what is typed any more."""

@@ -65,6 +65,7 @@ class Typed:
             # the book would have it for a moment, and nobody after that
             self.give_up()
             return
+        desk.give_up_taken_back()
         if not desk.settle() or not self._is_taken_back():
             return
 

@@ -136,6 +136,11 @@ def typed_meanwhile(text: str) -> str:
     return f"What was typed before this was shown is set aside: {quoted(text)}."
 
 
+def typed_and_taken_back(text: str) -> str:
+    """That a text which was typed and taken back is given up, since no key types it again."""
+    return f"What was typed before that is set aside: {quoted(text)}."
+
+
 def typed_below(text: str) -> str:
     """That a text which another program typed while a dialog was open over its place is given up."""
     return f"What was typed below the dialog is set aside: {quoted(text)}."
