@@ -818,8 +818,21 @@ def test_paragraphs_without_braille_are_named_with_what_they_lack(
     ) in ran.said.splitlines()
 
 
-def test_lines_of_ones_own_come_after_a_table_for_a_manuscript(tmp_path: Path) -> None:
-    inputs(tmp_path, "that bath\n\nthat 7\n")
+@pytest.mark.parametrize(
+    ("more", "said"),
+    [
+        ("", "1 paragraph wasn't compared, since liblouis lacks characters that"),
+        (
+            "\nthat 8\n",
+            "2 paragraphs weren't compared, since they have characters that liblouis lacks and that were"
+            " added, or that this table lacks: “8” (U+0038 DIGIT EIGHT).",
+        ),
+    ],
+)
+def test_lines_of_ones_own_come_after_a_table_for_a_manuscript(
+    tmp_path: Path, more: str, said: str
+) -> None:
+    inputs(tmp_path, f"that bath\n\nthat 7\n{more}")
     (tmp_path / "added").write_text("digit 7 1245\n")
     ran = scribe(
         *("bring", "small.utb", "out.utb", "--for", "text.txt", "--words", "words"),
@@ -827,9 +840,7 @@ def test_lines_of_ones_own_come_after_a_table_for_a_manuscript(tmp_path: Path) -
         folder=tmp_path,
         XDG_CACHE_HOME=str(tmp_path / "cache"),
     )
-    assert (
-        "1 paragraph wasn't compared, since liblouis lacks characters that" in ran.said
-    )
+    assert said in ran.said
     assert (
         "\ndigit 7 1245\n# The sum of these lines" in (tmp_path / "out.utb").read_text()
     )

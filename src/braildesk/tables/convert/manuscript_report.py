@@ -94,7 +94,11 @@ def _lacking(tailored: Tailored) -> Iterator[str]:
     if lacking:
         its = "it has characters" if one else "they have characters"
         listed = ", ".join(map(named, lacking))
-        yield f"{which}, since {its} that this table lacks: {listed}."
+        if len(lacking) < len(found.lacking):
+            what = "that liblouis lacks and that were added, or that this table lacks"
+        else:
+            what = "that this table lacks"
+        yield f"{which}, since {its} {what}: {listed}."
     else:
         yield f"{which}, since liblouis lacks characters that were added."
 
