@@ -362,8 +362,9 @@ def test_titles_of_tables_stand_where_the_document_has_them(
 
 
 def test_a_line_that_ends_by_hand_in_odt_has_none_of_its_words_missing_for_others(
-    tmp_path: Path,
+    tmp_path: Path, monkeypatch: pytest.MonkeyPatch
 ) -> None:
+    monkeypatch.setattr(pandoc, "office", lambda: None)
     contents = "<text:table-of-content><text:index-body><text:p>the moon</text:p></text:index-body></text:table-of-content>"
     text = f"{contents}<text:p>See<text:line-break/>the moon</text:p>"
     found = read_manuscript(odt(tmp_path / "lines.odt", text))

@@ -84,8 +84,9 @@ _LEFT_OUT = re.compile(
 _SESSION, _TIMES = 3, slice(11, 15)
 #: The status by which programs made by GHC, as pandoc is, end where they get no more memory.
 _NO_MEMORY = 251
-#: How far the time that the system counts for a limit may be from that which it reports, in seconds.
-_TICK = 0.1
+#: The least share of a limit on time that the system reports to be spent by it: for the limit it counts by
+#: ticks, each of which is wholly of the program that it finds, so that of two busy ones one may have more.
+_LEAST_SHARE = 0.75
 #: What LibreOffice says where it gets no more time of a processor: it ends otherwise than others by that.
 _NO_TIME = b"Fatal exception: Signal %d" % signal.SIGXCPU
 #: What they say where something is nested too deeply for them.
@@ -299,7 +300,7 @@ def _spent_by_ended() -> float:
 def _is_over(spent: float) -> bool:
     """Whether so many seconds of a processor are all that the limit of this process gives to one."""
     _, most = resource.getrlimit(resource.RLIMIT_CPU)
-    return most != resource.RLIM_INFINITY and spent > most - _TICK
+    return most != resource.RLIM_INFINITY and spent > most * _LEAST_SHARE
 
 
 def _failure(name: str, status: int, errors: bytes) -> UnreadableText:
