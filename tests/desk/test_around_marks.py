@@ -60,6 +60,9 @@ CASES: list[tuple[str, str, list[Mark], list[tuple[int, int, str]]]] = [
     ),
     # also a part of a word, with what belongs to it
     ("a beach c", "X beach Y", on("a beach c", "eac"), [(8, 1, "Y"), (0, 1, "X")]),
+    # without the signs beside it
+    ("a, b, c", "X, b; Y", on("a, b, c", "b"), [(4, 3, "; Y"), (0, 1, "X")]),
+    ("a b c", 'a "b" c', on("a b c", "b"), [(3, 0, '"'), (2, 0, '"')]),
     # and a blank behind it
     ("a b c", "X b Y", on("a b c", "b "), [(4, 1, "Y"), (0, 1, "X")]),
     # two marks, one of them resolved, with words between that change
@@ -83,7 +86,13 @@ CASES: list[tuple[str, str, list[Mark], list[tuple[int, int, str]]]] = [
         on("a q\u0307 c", "q\u0307"),
         [(5, 1, "Y"), (0, 1, "X")],
     ),
-    ("a b \u0307c", "X b \u0307Y", on("a b \u0307c", "b"), [(0, 6, "X b \u0307Y")]),
+    (
+        "a b \u0307c",
+        "X b \u0307Y",
+        on("a b \u0307c", "b"),
+        [(5, 1, "Y"), (0, 1, "X")],
+    ),
+    ("a b c", "X b\u0307 Y", on("a b c", "b"), [(0, 5, "X b\u0307 Y")]),
     # one change is the smallest correction, whatever mark is there
     ("a b c", "a X c", on("a b c", "b"), [(2, 1, "X")]),
     ("a b c", "a b c", on("a b c", "b"), []),

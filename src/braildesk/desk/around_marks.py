@@ -5,7 +5,7 @@ several places is parted around the words of marks: these stay as they are, or a
 """
 
 from collections import Counter
-from collections.abc import Iterable, Iterator, Mapping, Sequence
+from collections.abc import Callable, Iterable, Iterator, Mapping, Sequence
 from dataclasses import replace
 from itertools import groupby
 
@@ -82,8 +82,7 @@ def _stays(
 
     Of a span that changes too, these are the words that part its changes from those beside it.
     """
-    before = _words(old, least.start, least.stop)
-    further = _further(old, new, before, least)
+    before, further = _further(old, new, least)
     ends, new_ends = set(seams(old)), set(seams(new))
     for span in spans:
         its = [
@@ -111,32 +110,48 @@ def _first(words: Iterable[Span], further: Mapping[Span, int]) -> list[_Stay]:
 
 
 def _further(
-    old: str, new: str, before: Sequence[Span], least: Correction
-) -> dict[Span, int]:
-    """Of the words that change or stand between such words, those that stay, and how much further on."""
+    old: str, new: str, least: Correction
+) -> tuple[list[Span], dict[Span, int]]:
+    """The words that change or stand between such words; and those that stay, and how much further on."""
     from difflib import SequenceMatcher  # which few edits need
 
-    after = _words(new, least.start, least.start + len(least.text))
-    some = [old[word.start : word.stop] for word in before]
-    others = [new[word.start : word.stop] for word in after]
-    if _steps(some, others) > _MOST_STEPS:
-        return {}
+    # signs are no part of the words beside them, unless that takes too long
+    for is_of_word in (_is_of_letters, _is_no_blank):
+        before = _words(old, least.start, least.stop, is_of_word)
+        after = _words(new, least.start, least.start + len(least.text), is_of_word)
+        some = [old[word.start : word.stop] for word in before]
+        others = [new[word.start : word.stop] for word in after]
+        if _steps(some, others) <= _MOST_STEPS:
+            break
+    else:
+        return [], {}
     found = SequenceMatcher(None, some, others, autojunk=False).get_matching_blocks()
-    return {
+    return before, {
         before[one + nth]: after[other + nth].start - before[one + nth].start
         for one, other, size in found
         for nth in range(size)
     }
 
 
-def _words(text: str, start: int, stop: int) -> list[Span]:
-    """The words of a text that have a character from one place to another."""
+def _is_of_letters(piece: str) -> bool:
+    return piece[0].isalnum()
+
+
+def _is_no_blank(piece: str) -> bool:
+    return piece not in BLANKS
+
+
+def _words(
+    text: str, start: int, stop: int, is_of_word: Callable[[str], bool]
+) -> list[Span]:
+    """The words of a text, and its signs beside them, that have a character from one place to another."""
     words, place = list[Span](), 0
-    for is_blank, pieces in groupby(sequences(text), lambda piece: piece in BLANKS):
-        end = place + sum(map(len, pieces))
-        if not is_blank and place < stop and start < end:
-            words.append(Span(place, end))
-        place = end
+    for is_word, run in groupby(sequences(text), is_of_word):
+        for piece in ["".join(run)] if is_word else run:
+            end = place + len(piece)
+            if piece not in BLANKS and place < stop and start < end:
+                words.append(Span(place, end))
+            place = end
     return words
 
 
