@@ -29,6 +29,7 @@ from braildesk.protocol.requests import Command, Request
 from braildesk.protocol.sentences import Why
 from braildesk.protocol.values import Table
 from braildesk.refusals import (
+    CannotOpen,
     DeskError,
     Displaced,
     Lost,
@@ -154,6 +155,11 @@ class Session(Asking):
             raise self._lose(SessionEnded, _ended(ending))
         self._file.close()
 
+    def _missed(self, held: "HeldFile") -> Lost:
+        """The exception of a file that is held, and isn't at its path any more, with all of it saved."""
+        self._file, self._seen = held.file, held.version
+        return self._displaced()
+
     def guard(self, held: "HeldFile | None" = None) -> None:
         """Has the session look after what an earlier one kept as after what it keeps itself.
 
@@ -161,8 +167,7 @@ class Session(Asking):
         """
         if held is not None and not held.file.is_same(self._file):
             self._file.close()
-            self._file, self._seen = held.file, held.version
-            raise self._displaced()
+            raise self._missed(held)
         self._is_at_stake = True
 
     @property
@@ -615,13 +620,18 @@ class HeldFile:
 def held_file(session: Session) -> Iterator[HeldFile]:
     """Holds the file of a session meanwhile, also once that is closed, so that no other is taken for it.
 
-    Of a file that nobody holds, and that has no name any more, another one may get the number.
+    Of a file that nobody holds, and that has no name any more, another one may get the number. Raises
+    ``Displaced`` where a book can't be opened meanwhile since this file has its name no more.
     """
-    file = session._file.again()
+    held = HeldFile(session._file.again(), session.last_version)
     try:
-        yield HeldFile(file, session.last_version)
+        yield held
+    except CannotOpen as refused:
+        if held.file.is_at_its_path:
+            raise
+        raise session._missed(held) from refused
     finally:
-        file.close()
+        held.file.close()
 
 
 class _Session(Session):

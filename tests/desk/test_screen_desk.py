@@ -751,6 +751,27 @@ def test_another_book_that_is_put_there_by_an_import_s_end_is_not_taken_for_the_
     assert [each.id for each in sat.state.book] == [1]
 
 
+def test_a_book_that_is_removed_by_an_import_s_end_is_saved(
+    moon: Path, sit: Sit, monkeypatch: pytest.MonkeyPatch
+) -> None:
+    once_imported(monkeypatch, lambda: os.unlink(moon))
+    text = moon.with_name("text.txt")
+    text.write_text("The sun\n\nThe sea\n")
+    sat = sit(moon)
+    sat.press("i", *str(text), "enter")
+    sat.state = sat.desk.away(sat.state, lambda line: None)
+    typed = "2 paragraphs typed, numbers 4 to 5, by the table en."
+    assert sat.state.pages is not None
+    assert sat.state.pages.lines[0] == typed
+    assert sat.state.pages.lines[1].startswith(
+        f"The file of the book is no longer at “{moon}”: it was removed or moved while it was open."
+        f" All of the book, with what was kept last, is in the new file “{moon}-saved-1”."
+    )
+    with Session(f"{moon}-saved-1") as session:
+        its = [session.print_of(each.id) for each in session.paragraphs()]
+    assert (its[1:3], len(its)) == (["The sun", "The sea"], 5)
+
+
 def test_an_import_ends_at_once_by_a_signal_while_its_document_is_read(
     moon: Path, sit: Sit, monkeypatch: pytest.MonkeyPatch
 ) -> None:
