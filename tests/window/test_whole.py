@@ -715,3 +715,26 @@ def test_a_table_of_a_file_is_put_into_the_book_and_given(
     desk.act("table")
     assert desk.window.message.text == "Kept: paragraph 1 with table own."
     assert desk.window.cells.text == "⠁⠁⠁⠀⠁⠁⠁⠁"
+
+
+@pytest.mark.parametrize("answer", [0, 1])
+def test_it_is_asked_before_a_table_of_the_book_gets_the_text_of_a_file(
+    desk: Desk, given: Answers, tmp_path: Path, answer: int
+) -> None:
+    signs = sorted({*"".join(prints_of(desk))} - {" "})
+    given["one_of"], given["file"] = "From a file…", tmp_path / "en.utb"
+    letters = "".join(f"letter {each} 1\n" for each in signs)
+    given["file"].write_text(f"space \\s 0\n{letters}")
+    given["choices"] = [answer]
+    version, cells = desk.contents.version, desk.window.cells.text
+    desk.act("table")
+    assert given["said"] == [
+        "The book has a table en. 3 paragraphs have it. Shall it have the text of the file from now on,"
+        " and give other braille? Ctrl+Z doesn't take that back."
+    ]
+    if answer:
+        assert desk.window.message.text == "The table en is as it was."
+        assert (desk.contents.version, desk.window.cells.text) == (version, cells)
+    else:
+        assert desk.window.message.text == "Kept: paragraph 1 with table en."
+        assert desk.window.cells.text == "⠁⠁⠁⠀⠁⠁⠁⠁"

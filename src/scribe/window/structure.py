@@ -10,7 +10,7 @@ from scribe.window import dialogs
 from scribe.window.book import Done, NotAll
 from scribe.window.desk import STRUCK, Desk, New
 from scribe.window.dialogs import IsStopped, Say
-from scribe.words.changes import not_given, nothing_found, paragraph_history
+from scribe.words.changes import not_given, nothing_found, paragraph_history, used
 from scribe.words.status import Stop
 
 _HISTORY_COLUMNS = 72
@@ -78,8 +78,22 @@ class Structure:
                 desk.window, "A table from a file", desk.path, _TABLES
             )
             name = path.stem if path is not None else None
+            if name in there and not self._may_replace(name):
+                return
         if name is not None and (its is None or name != its.table or path is not None):
             self._give(its.id if its else None, name, path)
+
+    def _may_replace(self, name: str) -> bool:
+        """Whether a table of the book is to have the text of a file, which all its paragraphs have then."""
+        its = [each for each in self.desk.contents.paragraphs if each.table == name]
+        asked = (
+            f"The book has a table {name}. {used(len(its))} Shall it have the text of the file from now on,"
+            " and give other braille? Ctrl+Z doesn't take that back."
+        )
+        answer = self.desk.answer("A table from a file", asked, ("&Yes", "&No"))
+        if answer:
+            self.desk.say(f"The table {name} is as it was.")
+        return answer == 0
 
     def _give(self, number: int | None, name: str, path: Path | None) -> None:
         """Gives a paragraph a table, which takes a while if it is in many paragraphs already."""
@@ -127,4 +141,4 @@ class Structure:
         desk, number = self.desk, self.desk.settled()
         found = paragraph_history(desk.book.session, desk.chosen, _HISTORY_COLUMNS)
         lines = desk.asked(lambda: list(found)) or [nothing_found(None, ())]
-        dialogs.report(desk.window, f"History of paragraph {number}", lines)
+        desk.report(f"History of paragraph {number}", lines)

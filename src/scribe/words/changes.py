@@ -235,7 +235,7 @@ def _supplied(session: Session, command: requests.Table | requests.Supply) -> li
     is_other = before is not None and _text_now(session, command) not in (None, before)
     how = ", with another text than before" if is_other else ""
     return [
-        f"Table {command.table} is in the book{how}. {_used(users)}",
+        f"Table {command.table} is in the book{how}. {used(users)}",
         at_version(done.version),
     ]
 
@@ -260,7 +260,8 @@ def _text_now(
     return _text_of(session, command.table)
 
 
-def _used(users: int) -> str:
+def used(users: int) -> str:
+    """How many paragraphs have a table, in a sentence."""
     if users == 0:
         return "No paragraph has it yet."
     return "1 paragraph has it." if users == 1 else f"{users:,} paragraphs have it."
