@@ -18,6 +18,7 @@ from PyQt6.QtWidgets import (
     QListWidget,
     QMainWindow,
     QMessageBox,
+    QPlainTextEdit,
     QPushButton,
     QWidget,
 )
@@ -499,6 +500,70 @@ def test_an_enter_that_is_held_down_gives_no_answer_to_a_dialog_that_it_opened(
         assert dialogs.choice(over, "Change", "All?", answers) == 0
     held.stop()
     assert stays == [True]
+
+
+def _at_report(does: Callable[[QWidget, QWidget], None]) -> None:
+    """Does something once a report can be read."""
+
+    def look() -> None:
+        lines, dialog = QApplication.focusWidget(), QApplication.activeModalWidget()
+        if lines is not None and dialog is not None and lines.window() is dialog:
+            does(lines, dialog)
+        else:
+            QTimer.singleShot(10, look)
+
+    QTimer.singleShot(0, look)
+
+
+@pytest.mark.parametrize("text", ["und hier", "It rose"])
+def test_a_text_that_is_typed_on_at_a_report_is_set_aside(
+    desk: Desk, tmp_path: Path, text: str
+) -> None:
+    (path := tmp_path / "text.txt").write_text("The sun\n\nThe sea\n")
+    seen = list[str]()
+
+    def type_on(lines: QWidget, dialog: QWidget) -> None:
+        for letter in text:
+            _HANDS.keyClicks(dialog.focusWidget(), letter)
+        # the first one belongs to the text
+        _HANDS.keyClick(dialog.focusWidget(), Qt.Key.Key_Return)
+        last = dialog.focusWidget()
+        assert dialog.isVisible() and isinstance(last, QPushButton)
+        seen.extend((last.text(), last.accessibleDescription()))
+        _HANDS.keyClick(last, Qt.Key.Key_Return)
+        assert not dialog.isVisible()
+
+    _at_report(type_on)
+    desk.acting(lambda: Files(desk).imported(path))
+    assert seen == ["Close", "What is typed here is set aside. Enter closes this."]
+    assert desk.window.message.text == (
+        "2 paragraphs typed, numbers 4 to 5, by the table en. What was typed where lines were read is"
+        f" set aside: “{text}”. Ctrl+B brings it back."
+    )
+    assert [each.text for each in Drafts(desk.path).given_up()] == [text]
+    assert Drafts(desk.path).unread() is None
+
+
+@pytest.mark.parametrize(
+    "keys", [[Qt.Key.Key_Down, Qt.Key.Key_Return], [Qt.Key.Key_X, Qt.Key.Key_Escape]]
+)
+def test_a_report_is_read_and_closed_by_keys_that_type_nothing(
+    desk: Desk, keys: list[Qt.Key]
+) -> None:
+    blocks = list[int]()
+
+    def read(lines: QWidget, dialog: QWidget) -> None:
+        assert isinstance(lines, QPlainTextEdit)
+        for key in keys:
+            _HANDS.keyClick(dialog.focusWidget(), key)
+            blocks.append(lines.textCursor().blockNumber())
+        assert not dialog.isVisible()
+
+    _at_report(read)
+    desk.acting(lambda: desk.report("Export", ["One.", "Two."]))
+    assert blocks[0] == (keys[0] is Qt.Key.Key_Down)
+    assert desk.window.message.text == ""
+    assert Drafts(desk.path).given_up() == ()
 
 
 @pytest.mark.parametrize("text", ["und hier", "hallo du da", "x"])

@@ -216,7 +216,7 @@ class Changing:
         desk.window.model.all_unread()
         desk.show(desk.asked(desk.book.contents), None)
         desk.say(" ".join(sentences))
-        dialogs.report(desk.window, _TITLE, [*sentences, *before, *lines])
+        desk.report(_TITLE, [*sentences, *before, *lines])
 
 
 class _PlaceByPlace:

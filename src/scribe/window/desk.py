@@ -62,6 +62,7 @@ from scribe.words.drafts import (
     changed_since,
     not_kept,
     typed_at_offer,
+    typed_at_lines,
     typed_and_taken_back,
     typed_below,
     typed_meanwhile,
@@ -1106,7 +1107,24 @@ class Desk:
         self._at_offer = Unread("", its, is_at_offer=is_asked) if text else None
         self._keep_held()
 
-    def _put_by_at_offer(self) -> None:
+    def report(self, title: str, lines: Sequence[str]) -> None:
+        """Shows lines that can be read one by one; a text that was typed on there is given up."""
+        with self._taking_at_lines():
+            dialogs.report(self.window, title, lines)
+
+    def line_of(self, title: str, lines: Sequence[str], first: int) -> int | None:
+        """Shows such lines, and gives the place of the one that is gone to, if one is."""
+        with self._taking_at_lines():
+            return dialogs.line_of(self.window, title, lines, first)
+
+    @contextmanager
+    def _taking_at_lines(self) -> Iterator[None]:
+        with dialogs.taking_at_lines(self._keep_at_offer, self.held.holding):
+            yield
+        if not self.is_ending:
+            self._put_by_at_offer(typed_at_lines)
+
+    def _put_by_at_offer(self, at: Callable[[str], str] = typed_at_offer) -> None:
         """Gives up a text that was typed in a dialog, and says so."""
         typed, self._at_offer = self._at_offer, None
         if typed is None:
@@ -1120,7 +1138,7 @@ class Desk:
             return how or "Ctrl+B brings it back."
 
         how = self.aside.result(put_by, False)
-        said = typed_at_offer if typed.is_at_offer else came_last
+        said = at if typed.is_at_offer else came_last
         # also where what was answered is refused
         self.say_after(f"{said(draft.text)} {how}")
 

@@ -60,11 +60,12 @@ _LEAST_OF_TEXT = 2
 # keys that go from one button to another, of which the last are those of a text too
 _TABS = (Qt.Key.Key_Tab, Qt.Key.Key_Backtab)
 _ARROWS = (*(Qt.Key.Key_Left, Qt.Key.Key_Right), *(Qt.Key.Key_Up, Qt.Key.Key_Down))
-# what is said where a text or Space came that answers nothing
+# what is said where a text or Space came that answers nothing, or is typed where lines are read
 _NO_ANSWER = "What is typed here is no answer. Tab goes to one, and Enter gives it."
 _NO_NAME = (
     "What is typed here is no answer. Tab goes back, and Enter gives what is chosen."
 )
+_NOT_HERE = "What is typed here is set aside. Enter closes this."
 # when a dialog of progress is shown, and how often what it says is looked at
 _SHOWN_AFTER_SECONDS = 0.4
 _PACE_MILLISECONDS = 100
@@ -197,7 +198,7 @@ def _fill(dialog: QDialog, area: QScrollArea, width: int, height: int) -> None:
     area.setMinimumHeight(max(0, min(its, height - others)))
 
 
-def _within(dialog: QDialog, kind: type[Part]) -> list[Part]:
+def _within(dialog: QWidget, kind: type[Part]) -> list[Part]:
     """The parts of a kind that a dialog has."""
     return [each for each in dialog.findChildren(kind) if isinstance(each, kind)]
 
@@ -319,7 +320,7 @@ class _Blind(QObject):
         """Takes letters, what takes them away, and Space and Enter unless a button was gone to."""
         if event is not None and isinstance(to, QWindow):
             return self._is_from_before(to, event)
-        if event is None or not isinstance(to, (QPushButton, QDialog, _Names)):
+        if event is None or not isinstance(to, (QPushButton, QDialog, _Names, _Read)):
             return False
         if event.type() == QEvent.Type.Show:
             self._read_at = time.monotonic() + self._reading
@@ -490,6 +491,30 @@ class _BlindAtNames(_Blind):
         last.setAccessibleDescription(_NO_NAME)
         label.setText(f"{label.text()}\n\n{_NO_NAME}")
         _fit(dialog, dialog.width(), dialog.height())
+
+
+def taking_at_lines(
+    typed: Callable[[str], None], holding: Holding
+) -> AbstractContextManager[None]:
+    """Hands on a text that is typed on where lines are shown meanwhile, which can be read."""
+    return _BlindAtLines(typed, _READING_SECONDS, holding=holding).taking()
+
+
+class _BlindAtLines(_Blind):
+    """The same at lines, in which arrow keys and Space go on."""
+
+    def _after(self, event: QEvent | None) -> str | None:
+        if isinstance(event, QKeyEvent) and event.key() in _ARROWS:
+            return None
+        return super()._after(event)
+
+    def _say(self, to: QWidget) -> None:
+        """Goes to the button that closes them, which says what becomes of the text."""
+        for buttons in _within(to.window(), QDialogButtonBox):
+            last = buttons.button(QDialogButtonBox.StandardButton.Close)
+            assert last is not None
+            last.setAccessibleDescription(_NOT_HERE)
+            last.setFocus()
 
 
 def text(
@@ -735,6 +760,10 @@ def new_file(over: QWidget | None, title: str, first: Path) -> Path | None:
     return Path(name) if name else None
 
 
+class _Read(Field):
+    """Lines of a dialog, in which nothing is typed."""
+
+
 class _Lines(QDialog):
     """Lines that are read, and perhaps one of them is gone to by Enter or a double click."""
 
@@ -744,7 +773,7 @@ class _Lines(QDialog):
         super().__init__(over)
         self._over = over
         self.setWindowTitle(title)
-        self._field = Field(title, True)
+        self._field = _Read(title, True)
         self._field.setPlainText("\n".join(lines))
         column = QVBoxLayout(self)
         column.addWidget(self._field)

@@ -246,7 +246,7 @@ class Files:
         if lines is None:
             return False
         desk.say(lines[-1] if lines else f"{title}: done.")
-        dialogs.report(desk.window, title, lines)
+        desk.report(title, lines)
         return True
 
     def _aside(
@@ -287,14 +287,14 @@ class Files:
         if problems:
             raise problems[0]
         desk.say(lines[-1] if lines else f"{title}: done.")
-        dialogs.report(desk.window, title, lines)
+        desk.report(title, lines)
 
     def _lost(self, title: str, done: Sequence[str], lost: Lost) -> None:
         """Shows what was done before the session in which the book was opened again ended."""
         self.desk.is_closed = True
         self.desk.after_loss(lost)
         said = self.desk.window.message.text
-        dialogs.report(self.desk.window, title, [*done, said])
+        self.desk.report(title, [*done, said])
 
     def _closed(
         self, title: str, done: Sequence[str], failed: DeskError | OSError
@@ -304,7 +304,7 @@ class Files:
         why = failed.reason if isinstance(failed, DeskError) else of_system(failed)
         desk.is_closed, desk.loss = True, " ".join([*done, why])
         if done:
-            dialogs.report(desk.window, title, [*done, why])
+            desk.report(title, [*done, why])
         return Stop(" ".join([*done[-1:], why]))
 
 

@@ -106,7 +106,7 @@ class Going:
         title = f"Headings: {counted(len(found), 'heading')}"
         before = [n for n, e in enumerate(found) if book.index(e) <= desk.row]
         first = before[-1] if before else 0
-        line = dialogs.line_of(desk.window, title, lines, first)
+        line = desk.line_of(title, lines, first)
         if line is not None:
             self._to(found[line].id, 0, desk.window.table)
             self._say_there()
@@ -125,7 +125,7 @@ class Going:
         if not marks:
             raise Stop(marks_summary(marks))
         held = [n for n, each in enumerate(marks) if each.mark.id == desk.in_hand]
-        line = dialogs.line_of(desk.window, "All marks", lines, held[0] if held else 0)
+        line = desk.line_of("All marks", lines, held[0] if held else 0)
         if line is None:
             return
         its = marks[line]

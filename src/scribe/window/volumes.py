@@ -35,7 +35,7 @@ class Volumes:
         book, volumes, lines = self._looked_at("Volumes", None)
         size = desk.page_size
         title = " ".join([f"Volumes: {summary(volumes, size)}", *faults(volumes)])
-        line = dialogs.line_of(desk.window, title, lines, 0)
+        line = desk.line_of(title, lines, 0)
         if line is None:
             return
         first = book[volumes[line].paragraphs.start]

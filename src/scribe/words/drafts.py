@@ -131,6 +131,12 @@ def typed_at_offer(text: str) -> str:
     return f"What was typed at the question is set aside: {quoted(joined)}."
 
 
+def typed_at_lines(text: str) -> str:
+    """That a text which was typed where lines were read is among those given up."""
+    joined = text.replace("\n", " ")
+    return f"What was typed where lines were read is set aside: {quoted(joined)}."
+
+
 def typed_meanwhile(text: str) -> str:
     """That a text which another program typed before another paragraph was shown is given up."""
     return f"What was typed before this was shown is set aside: {quoted(text)}."
