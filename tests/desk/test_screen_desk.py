@@ -751,25 +751,39 @@ def test_another_book_that_is_put_there_by_an_import_s_end_is_not_taken_for_the_
     assert [each.id for each in sat.state.book] == [1]
 
 
-def test_a_book_that_is_removed_by_an_import_s_end_is_saved(
-    moon: Path, sit: Sit, monkeypatch: pytest.MonkeyPatch
+def before_import(patch: pytest.MonkeyPatch, deed: Callable[[], None]) -> None:
+    """Has something be done before an import opens the book."""
+
+    def then_imported(path: Path, *words: Any) -> ActionResult:
+        deed()
+        return done_in_background(path, *words)
+
+    patch.setattr("scribe.screen.desk.done_in_background", then_imported)
+
+
+@pytest.mark.parametrize("when", [before_import, once_imported])
+def test_a_book_that_is_removed_while_it_is_closed_for_an_import_is_saved(
+    moon: Path,
+    sit: Sit,
+    monkeypatch: pytest.MonkeyPatch,
+    when: Callable[[pytest.MonkeyPatch, Callable[[], None]], None],
 ) -> None:
-    once_imported(monkeypatch, lambda: os.unlink(moon))
+    when(monkeypatch, lambda: os.unlink(moon))
     text = moon.with_name("text.txt")
     text.write_text("The sun\n\nThe sea\n")
     sat = sit(moon)
     sat.press("i", *str(text), "enter")
     sat.state = sat.desk.away(sat.state, lambda line: None)
-    typed = "2 paragraphs typed, numbers 4 to 5, by the table en."
     assert sat.state.pages is not None
-    assert sat.state.pages.lines[0] == typed
-    assert sat.state.pages.lines[1].startswith(
+    assert sat.state.pages.lines[-1].startswith(
         f"The file of the book is no longer at “{moon}”: it was removed or moved while it was open."
         f" All of the book, with what was kept last, is in the new file “{moon}-saved-1”."
     )
     with Session(f"{moon}-saved-1") as session:
         its = [session.print_of(each.id) for each in session.paragraphs()]
-    assert (its[1:3], len(its)) == (["The sun", "The sea"], 5)
+    typed = ["The sun", "The sea"] if when is once_imported else []
+    assert [each for each in its if each in typed] == typed
+    assert len(its) == 3 + len(typed)
 
 
 def test_an_import_ends_at_once_by_a_signal_while_its_document_is_read(

@@ -812,3 +812,12 @@ def test_a_mark_in_hand_that_stands_elsewhere_once_a_correction_is_taken_back_is
     desk.act(act)
     assert (desk.window.print.text, desk.place) == ("The mon is far away.", 15)
     assert "so?" not in desk.window.here.text and desk.in_hand is None
+
+
+@pytest.mark.parametrize("count, stop", [(1, 0), (400, 1_999)])
+def test_a_message_of_several_lines_is_read_whole_as_it_takes_the_focus(
+    desk: Desk, application: QApplication, count: int, stop: int
+) -> None:
+    desk.refuse(" ".join(["word"] * count))
+    application.processEvents()
+    assert desk.window.message.selected == Span(0, stop)

@@ -451,6 +451,13 @@ class Desk:
             self._have_read()
         else:
             message.put_caret(0)
+            QTimer.singleShot(0, self._have_all_read)
+
+    def _have_all_read(self) -> None:
+        """Has a message of several lines be read, of which a screen reader reads the first one at its focus."""
+        message = self.window.message
+        if self.window.focusWidget() is message and message.lines > 1:
+            self._have_read()
 
     def go_to(self, field: QWidget) -> None:
         """Gives a part of the window the focus; Escape goes back. The message is read again there."""
@@ -458,6 +465,7 @@ class Desk:
         if focused is not field:
             self._came_from, self._is_refused = focused, False
             field.setFocus()
+            QTimer.singleShot(0, self._have_all_read)
         elif field is self.window.message:
             self._have_read()
 

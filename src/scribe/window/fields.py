@@ -101,6 +101,13 @@ class Field(QPlainTextEdit):
             mouse = Qt.TextInteractionFlag.TextSelectableByMouse
             self.setTextInteractionFlags(keys | mouse)
 
+    @property
+    def lines(self) -> int:
+        """How many lines the text takes here."""
+        document = self.document()
+        assert document is not None
+        return round(document.size().height())
+
     def describe(self, said: str) -> None:
         """Has a screen reader say what this is, each time it takes the focus."""
         self._described = said
