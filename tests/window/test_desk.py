@@ -814,10 +814,41 @@ def test_a_mark_in_hand_that_stands_elsewhere_once_a_correction_is_taken_back_is
     assert "so?" not in desk.window.here.text and desk.in_hand is None
 
 
+def _before_import(patch: pytest.MonkeyPatch, deed: Callable[[], None]) -> None:
+    """Has something be done before an import opens the book."""
+
+    def then_done(job: Import, *words: Any) -> Outcome:
+        deed()
+        return import_in_words(job, *words)
+
+    patch.setattr("scribe.window.files.import_in_words", then_done)
+
+
+@pytest.mark.parametrize("when, count", [(_before_import, 3), (_once_imported, 5)])
+def test_a_book_that_is_removed_while_it_is_closed_for_an_import_is_saved(
+    desk: Desk,
+    given: Answers,
+    monkeypatch: pytest.MonkeyPatch,
+    tmp_path: Path,
+    when: Callable[[pytest.MonkeyPatch, Callable[[], None]], None],
+    count: int,
+) -> None:
+    when(monkeypatch, lambda: os.unlink(desk.path))
+    (text := tmp_path / "tides.txt").write_text("One.\n\nTwo.\n")
+    desk.window.dropped.emit(text)
+    saved = Path(f"{desk.path}-saved-1")
+    assert desk.is_closed and str(saved) in desk.window.message.text
+    with Session(saved) as session:
+        assert len(session.paragraphs()) == count
+
+
 @pytest.mark.parametrize("count, stop", [(1, 0), (400, 1_999)])
 def test_a_message_of_several_lines_is_read_whole_as_it_takes_the_focus(
     desk: Desk, application: QApplication, count: int, stop: int
 ) -> None:
+    desk.window.show()
+    desk.window.activateWindow()
+    assert wait(application, 60, desk.window.isActiveWindow)
     desk.refuse(" ".join(["word"] * count))
     application.processEvents()
     assert desk.window.message.selected == Span(0, stop)
