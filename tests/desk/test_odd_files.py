@@ -1,5 +1,6 @@
 """Files and folders that the system refuses: a sentence and a status, whatever the command."""
 
+import errno
 import json
 import os
 import shutil
@@ -20,6 +21,7 @@ from braildesk.desk.import_text import bytes_of
 from braildesk.desk.layout import PageSize
 from braildesk.desk.whole_file import NoPlaceForAFile, write_whole
 from braildesk.making import NotCopied, NotMade
+from braildesk.protocol.asked import real_path
 
 from scribe.cli import run_words
 from scribe.prompt.trial import Trial
@@ -475,3 +477,21 @@ def test_a_log_that_may_not_be_read_is_said_to_be_denied(
         f" looked for. Nothing was changed. Ask who owns “{log}”, or an administrator, for leave to"
         " do so."
     )
+
+
+def test_where_a_path_leads_is_found_also_while_a_link_is_exchanged_for_a_file(
+    tmp_path: Path, monkeypatch: pytest.MonkeyPatch
+) -> None:
+    (file := tmp_path / "file").touch()
+    (link := tmp_path / "link").symlink_to(file)
+    read, fails = os.readlink, [True, True]
+
+    def exchanged(path: str, **words: int) -> str:
+        if fails and fails.pop():
+            # as of a file that was put there since it was looked at
+            raise OSError(errno.EINVAL, os.strerror(errno.EINVAL))
+        return read(path, **words)
+
+    monkeypatch.setattr(os, "readlink", exchanged)
+    assert real_path(str(link)) == str(file)
+    assert not fails

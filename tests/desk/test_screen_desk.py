@@ -604,6 +604,23 @@ def test_that_nothing_is_exported_is_said_where_the_session_is_lost_as_that_begi
     assert not sat.state.is_lost and not moon.with_name("moon-1.brf").exists()
 
 
+def test_pages_that_may_be_another_book_s_are_said_to_be_where_none_could_be_copied(
+    moon: Path,
+    other: Path,
+    sit: Sit,
+    monkeypatch: pytest.MonkeyPatch,
+    tmp_path: Path,
+) -> None:
+    sat = sit(moon)
+    # from which pages are made then, while the session is closed
+    monkeypatch.setattr(tempfile, "tempdir", str(tmp_path / "missing"))
+    before_it(monkeypatch, lambda: os.replace(other, moon))
+    sat.press("x", *str(moon.parent), "enter")
+    sat.state = sat.desk.away(sat.state, lambda _: None)
+    assert sat.state.pages is not None
+    assert "of another file that was at the book's path." in sat.state.pages.lines[-2]
+
+
 def test_nobody_else_has_the_book_while_a_document_is_read(
     moon: Path, other: Path, sit: Sit, monkeypatch: pytest.MonkeyPatch
 ) -> None:
@@ -751,17 +768,17 @@ def test_another_book_that_is_put_there_by_an_import_s_end_is_not_taken_for_the_
     assert [each.id for each in sat.state.book] == [1]
 
 
-def before_import(patch: pytest.MonkeyPatch, deed: Callable[[], None]) -> None:
-    """Has something be done before an import opens the book."""
+def before_it(patch: pytest.MonkeyPatch, deed: Callable[[], None]) -> None:
+    """Has something be done before an export or an import opens the book."""
 
-    def then_imported(path: Path, *words: Any) -> ActionResult:
+    def then_begun(path: Path, *words: Any) -> ActionResult:
         deed()
         return done_in_background(path, *words)
 
-    patch.setattr("scribe.screen.desk.done_in_background", then_imported)
+    patch.setattr("scribe.screen.desk.done_in_background", then_begun)
 
 
-@pytest.mark.parametrize("when", [before_import, once_imported])
+@pytest.mark.parametrize("when", [before_it, once_imported])
 def test_a_book_that_is_removed_while_it_is_closed_for_an_import_is_saved(
     moon: Path,
     sit: Sit,

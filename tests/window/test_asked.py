@@ -4,11 +4,12 @@ import signal
 import time
 from collections.abc import Callable
 from pathlib import Path
+from threading import Event
 from types import SimpleNamespace
 from typing import Any
 
 import pytest
-from PyQt6.QtCore import QEvent, Qt, QTimer
+from PyQt6.QtCore import QCoreApplication, QEvent, Qt, QTimer
 from PyQt6.QtGui import QKeyEvent
 from PyQt6.QtTest import QTest
 from PyQt6.QtWidgets import (
@@ -32,6 +33,7 @@ from scribe.window import dialogs
 from scribe.window.desk import Desk
 from scribe.window.files import Files
 from scribe.window.held import Held
+from scribe.window.worker import Worker
 
 import test_held
 from conftest import Open, prints, wait
@@ -500,6 +502,67 @@ def test_an_enter_that_is_held_down_gives_no_answer_to_a_dialog_that_it_opened(
         assert dialogs.choice(over, "Change", "All?", answers) == 0
     held.stop()
     assert stays == [True]
+
+
+@pytest.mark.parametrize("text", ["een zin", "hallo", "ueb is it"])
+def test_a_text_that_is_typed_on_at_the_tables_chooses_none_of_them(
+    desk: Desk, text: str
+) -> None:
+    def type_on(names: QListWidget) -> None:
+        dialog = names.window()
+        for letter in text:
+            _HANDS.keyClicks(names, letter)
+        for _ in range(2):
+            _HANDS.keyClick(dialog.focusWidget(), Qt.Key.Key_Return)
+        assert not dialog.isVisible()
+
+    version = desk.contents.version
+    _at_names(type_on)
+    desk.act("table")
+    assert desk.window.message.text == _ASIDE.format(text)
+    assert desk.asked(desk.book.contents).version == version
+    assert [each.text for each in Drafts(desk.path).given_up()] == [text]
+
+
+def test_a_table_is_looked_for_by_its_first_letters(desk: Desk) -> None:
+    def look(names: QListWidget) -> None:
+        _HANDS.keyClicks(names, "ue")
+        _HANDS.keyClick(names, Qt.Key.Key_Return)
+
+    _at_names(look)
+    desk.act("table")
+    assert desk.contents.paragraphs[0].table == "ueb"
+    assert Drafts(desk.path).given_up() == ()
+
+
+def test_no_dialog_opens_by_itself_while_hands_type(
+    application: QApplication, monkeypatch: pytest.MonkeyPatch
+) -> None:
+    monkeypatch.setattr(dialogs, "_SHOWN_AFTER_SECONDS", 0)
+    over, field, held = QMainWindow(), QLineEdit(), Held()
+    over.setCentralWidget(field)
+    over.show()
+    assert wait(application, 60, lambda: over.windowHandle() is not None)
+    seen, is_seen, none = list[QWidget | None](), Event(), Qt.KeyboardModifier(0)
+
+    def look() -> None:
+        if QApplication.activeModalWidget() is None:
+            QTimer.singleShot(10, look)
+        else:
+            is_seen.set()
+
+    def type_on() -> None:
+        seen.append(QApplication.activeModalWidget())
+        key = QKeyEvent(QEvent.Type.KeyPress, Qt.Key.Key_A, none, "a")
+        QCoreApplication.sendEvent(over.windowHandle(), key)
+        QTimer.singleShot(20, type_on if len(seen) < 8 else look)
+
+    type_on()
+    worker = Worker(held)
+    assert dialogs.long(over, worker, "Import", lambda say, is_stopped: is_seen.wait())
+    assert seen == [None] * 8
+    worker.stop()
+    held.stop()
 
 
 def _at_report(does: Callable[[QWidget, QWidget], None]) -> None:

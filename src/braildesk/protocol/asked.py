@@ -5,6 +5,7 @@ Where the program finds the file of a book, its log and another program's journa
 
 import errno
 import os
+from contextlib import suppress
 from dataclasses import dataclass, field
 from os import PathLike, fspath
 from pathlib import PosixPath
@@ -15,6 +16,9 @@ from braildesk.protocol.value import Value
 
 if TYPE_CHECKING:
     from braildesk.protocol.requests import Request
+
+#: How often it is tried to find where a path leads.
+_TRIES = 10
 
 
 @dataclass(frozen=True, eq=False, repr=False)
@@ -137,7 +141,13 @@ def seen(path: str | PathLike[str]) -> SeenPath:
 
 
 def real_path(path: str) -> str:
-    """Where a path leads, with no link in it: the program takes a book's file from there."""
+    """Where a path leads, with no link in it: the program takes a book's file from there.
+
+    A link that another user exchanges for a file in that moment is no link any more as it is read.
+    """
+    for _ in range(_TRIES):
+        with suppress(OSError):
+            return os.path.realpath(path)
     return os.path.realpath(path)
 
 

@@ -1086,6 +1086,7 @@ class Desk:
     ) -> int:
         """The answer to what no key has asked for; a text that was typed there is given up."""
         self._is_offering = True
+        self.work.wait_for_pause()
         its = self.window, title, asked, answers, self._keep_at_offer
         answer = offer(*its, *by_enter, holding=self.held.holding)
         if not self.is_ending:
@@ -1101,10 +1102,18 @@ class Desk:
             self._put_by_at_offer()
         return answer
 
-    def one_of(self, title: str, asked: str, names: Sequence[str]) -> str | None:
-        """One of several names, none where it is given up; as is a text that was typed on there."""
-        with dialogs.taking(self._keep_at_offer):
-            name = dialogs.one_of(self.window, title, asked, names, 0)
+    def one_of(
+        self, title: str, asked: str, names: Sequence[str], first: int | None = None
+    ) -> str | None:
+        """One of several names, none where it is given up; as is a text that was typed on there.
+
+        If one is chosen at first, letters look for others.
+        """
+        taking = dialogs.taking(self._keep_at_offer)
+        if first is not None:
+            taking = dialogs.taking_at_search(self._keep_at_offer, names)
+        with taking:
+            name = dialogs.one_of(self.window, title, asked, names, first or 0)
         if not self.is_ending:
             self._put_by_at_offer()
         return name
@@ -1117,6 +1126,7 @@ class Desk:
 
     def report(self, title: str, lines: Sequence[str]) -> None:
         """Shows lines that can be read one by one; a text that was typed on there is given up."""
+        self.work.wait_for_pause()
         with self._taking_at_lines():
             dialogs.report(self.window, title, lines)
 

@@ -57,6 +57,8 @@ _READING_SECONDS = 0.3
 _REPEAT_MILLISECONDS = 50
 # so many letters a text has at least where one alone may be meant as an answer
 _LEAST_OF_TEXT = 2
+# so long after a letter the next one begins another search
+_SEARCH_SECONDS = 1.0
 # keys that go from one button to another, of which the last are those of a text too
 _TABS = (Qt.Key.Key_Tab, Qt.Key.Key_Backtab)
 _ARROWS = (*(Qt.Key.Key_Left, Qt.Key.Key_Right), *(Qt.Key.Key_Up, Qt.Key.Key_Down))
@@ -493,6 +495,45 @@ class _BlindAtNames(_Blind):
         _fit(dialog, dialog.width(), dialog.height())
 
 
+def taking_at_search(
+    typed: Callable[[str], None], names: Sequence[str]
+) -> AbstractContextManager[None]:
+    """The same where letters look for the name that begins with them."""
+    return _BlindAtSearch(typed, names).taking()
+
+
+class _BlindAtSearch(_BlindAtNames):
+    """The same at names that are looked for by their first letters: with others no name begins."""
+
+    def __init__(self, typed: Callable[[str], None], names: Sequence[str]) -> None:
+        super().__init__(typed, _READING_SECONDS)
+        self._names = [name.casefold() for name in names]
+        self._came_at = -math.inf
+
+    def eventFilter(self, to: QObject | None, event: QEvent | None) -> bool:
+        """Lets letters look for a name, as long as one begins so; a pause ends that."""
+        is_key = isinstance(event, QKeyEvent) and event.type() == QEvent.Type.KeyPress
+        if isinstance(to, _Names) and isinstance(event, QKeyEvent) and is_key:
+            before, self._came_at = self._came_at, time.monotonic()
+            if self._begins(self._text) and self._came_at > before + _SEARCH_SECONDS:
+                self._text = ""
+            sought = self._text + event.text()
+            if is_letter(event) and self._begins(sought):
+                self._text = sought
+                return False
+        return super().eventFilter(to, event)
+
+    def _after(self, event: QEvent | None) -> str | None:
+        is_key = isinstance(event, QKeyEvent) and event.type() == QEvent.Type.KeyPress
+        if isinstance(event, QKeyEvent) and is_key and event.key() in ENTER:
+            self._is_gone_to = self._is_gone_to or self._begins(self._text)
+        return super()._after(event)
+
+    def _begins(self, text: str) -> bool:
+        """Whether a name begins so."""
+        return any(name.startswith(text.casefold()) for name in self._names)
+
+
 def taking_at_lines(
     typed: Callable[[str], None], holding: Holding
 ) -> AbstractContextManager[None]:
@@ -869,7 +910,9 @@ def long(
     timer.start(_PACE_MILLISECONDS)
     worker.post(lambda: act(say, lambda: dialog.is_stopped), ended)
     shown_at = time.monotonic() + _SHOWN_AFTER_SECONDS
-    worker.wait_until(lambda: bool(found) or time.monotonic() >= shown_at)
+    worker.wait_until(
+        lambda: bool(found) or time.monotonic() >= shown_at and not worker.is_typed_on
+    )
     with _back_to(over, dialog):
         if not found:
             with _Blind(typed, _READING_SECONDS, least=1).taking():

@@ -1,5 +1,7 @@
 """What is pressed while the window waits: it is held in its order, and does after it what it is for."""
 
+import math
+import time
 from collections import deque
 from collections.abc import Iterator
 from contextlib import contextmanager
@@ -26,6 +28,8 @@ _BY_HANDS = frozenset(
 _OF_KEYS = frozenset((_KINDS.Shortcut, _KINDS.InputMethod))
 _OF_TEXT = frozenset((_KINDS.KeyPress, _KINDS.InputMethod))
 _KEYS = frozenset((_KINDS.KeyPress, _KINDS.KeyRelease))
+# after so long without a letter nobody types on
+_PAUSE_SECONDS = 0.3
 # what is dragged, which is there only for now
 _OF_DRAGS = frozenset((_KINDS.DragEnter, _KINDS.DragMove, _KINDS.Drop))
 # the property of dialogs of which a line takes what came before it was there
@@ -35,6 +39,13 @@ _TAKES = "takesWhatCame"
 def take_what_came(dialog: QWidget) -> None:
     """Has a line of a dialog take what comes after the key that opens it, before it has the keyboard."""
     dialog.setProperty(_TAKES, True)
+
+
+def _is_of_text(event: QEvent | None) -> bool:
+    """Whether a key of a text is pressed, and not held down."""
+    if not isinstance(event, QKeyEvent) or event.type() != _KINDS.KeyPress:
+        return False
+    return is_letter(event) and not event.isAutoRepeat()
 
 
 def _is_of_line(dialog: QWidget | None) -> TypeGuard[QWidget]:
@@ -74,6 +85,8 @@ class Held(QObject):
         self._let_go_at = 0
         # whether the window for which it is isn't shown any more
         self._is_over = False
+        # when a letter came last
+        self._typed_at = -math.inf
         self._soon = QTimer(self)
         self._soon.setSingleShot(True)
         self._soon.timeout.connect(self._obey)
@@ -81,6 +94,11 @@ class Held(QObject):
         assert self._application is not None
         # before a screen reader's, which hears of keys as they are pressed
         self._application.installEventFilter(self)
+
+    @property
+    def is_typed_on(self) -> bool:
+        """Whether hands are typing: what comes in the moment in which a dialog opens, nobody gets."""
+        return time.monotonic() < self._typed_at + _PAUSE_SECONDS
 
     def end(self) -> None:
         """Holds all that is pressed from now on, since nothing is shown any more on which it could act."""
@@ -129,6 +147,8 @@ class Held(QObject):
         What they drag isn't taken, and stays where it comes from.
         """
         is_obeyed = event is self._obeyed
+        if isinstance(to, QWindow) and not is_obeyed and _is_of_text(event):
+            self._typed_at = time.monotonic()
         if isinstance(event, QKeyEvent) and not is_obeyed and self._is_held_down(event):
             return True
         if to is None or event is None:

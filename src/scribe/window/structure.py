@@ -69,9 +69,7 @@ class Structure:
         names = [*there, *others, _FROM_A_FILE]
         first = names.index(its.table) if its else 0
         where = f"paragraph {its.id}" if its else "new paragraphs"
-        name = dialogs.one_of(
-            desk.window, "Table", f"The table of {where}:", names, first
-        )
+        name = desk.one_of("Table", f"The table of {where}:", names, first)
         path = None
         if name == _FROM_A_FILE:
             path = dialogs.file_to_read(

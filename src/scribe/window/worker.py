@@ -15,6 +15,8 @@ from scribe.window.held import Held
 Result = TypeVar("Result")
 # how long the window waits without even being drawn
 _MOMENT_SECONDS = 0.05
+# how often it is looked whether hands type on
+_LOOK_MILLISECONDS = 50
 # after how long that is said
 _LONG_MILLISECONDS = 2_000
 
@@ -88,6 +90,18 @@ class Worker(QObject):
         with self._held.holding():
             while not is_over():
                 loop.processEvents(flags.WaitForMoreEvents)
+
+    @property
+    def is_typed_on(self) -> bool:
+        """Whether hands are typing, so that no dialog opens by itself yet."""
+        return self._held.is_typed_on
+
+    def wait_for_pause(self) -> None:
+        """Waits until hands don't type any more, before a dialog opens by itself."""
+        timer = QTimer()
+        timer.start(_LOOK_MILLISECONDS)
+        self.wait_until(lambda: not self.is_typed_on)
+        timer.stop()
 
     def post(
         self, act: Callable[[], Result], then: Callable[["Future[Result]"], None]

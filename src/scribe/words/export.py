@@ -29,6 +29,10 @@ from scribe.words.paragraph import counted
 from scribe.words.status import Interrupted, Status, may_not_last, stopped_by
 
 
+#: What is said of files that were made while the book was closed, if another file is at its path then.
+MAY_BE_OF_OTHER = "What was written may be of another file that was at the book's path."
+
+
 @contextmanager
 def copy_of_open(
     session: Session, path: Path, judge: Callable[[], None]

@@ -127,7 +127,7 @@ def _limit_named(name: str) -> Iterator[None]:
 
 @_limit_named("pandoc")
 def tree(
-    data: bytes, kind: ManuscriptKind, check: Check
+    data: bytes, kind: ManuscriptKind, check: Check = lambda: None
 ) -> tuple[dict[str, Any], frozenset[str]]:
     """The tree that pandoc makes of the bytes of a file, and the keys of notes that it may lack."""
     pandoc = shutil.which("pandoc")
