@@ -84,7 +84,11 @@ def _is_file(path: str, mode: int) -> bool:
 
 def is_of_system(path: str) -> bool:
     """Whether a path is one at which the system shows what it has, and keeps no file."""
-    names = os.path.abspath(path), os.path.realpath(path)
+    try:
+        names = os.path.abspath(path), os.path.realpath(path)
+    except OSError:
+        # it begins in a folder that is gone, where nothing is
+        return False
     return any(f"{each}/".startswith(_OF_SYSTEM) for each in names)
 
 

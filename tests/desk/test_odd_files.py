@@ -292,6 +292,8 @@ def test_a_folder_that_is_gone_ends_each_command_in_a_sentence(
     gone.rmdir()
     for name, words in ALL.items():
         check_said(ran([name, *words]), name)
+    # the book is found, and the folder for its pages isn't
+    check_said(ran(["export", str(sample / "moon.braildesk"), "pages"]), "export")
 
 
 #: Runs commands, and writes what came of each.

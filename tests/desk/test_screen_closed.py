@@ -143,6 +143,27 @@ def test_what_was_cut_out_of_a_print_that_is_kept_is_put_in_elsewhere_after_the_
     assert "cut out" not in " ".join(last.lines)
 
 
+def test_what_was_cut_is_put_in_also_after_an_end_by_a_key(
+    moon: Path, at: Open
+) -> None:
+    terminal = at(moon)
+    terminal.wait("? shows the keys.")
+    terminal.keys("o", "It rose.")
+    terminal.wait("It rose.")
+    terminal.keys("c-w")
+    terminal.wait("“rose.” was cut. Ctrl-Y puts it in.")
+    terminal.keys("escape", "q")
+    assert terminal.ended() == 0
+    again = at(moon)
+    again.wait(
+        "“rose.” was cut out of what was typed. Ctrl-Y puts it in while you type."
+    )
+    again.keys("o", "c-y")
+    again.wait("rose.")
+    again.keys("escape", "q")
+    assert again.ended() == 0
+
+
 def test_lines_that_were_pasted_and_not_answered_for_are_asked_about_again(
     moon: Path, at: Open
 ) -> None:

@@ -222,7 +222,7 @@ class Screen:
         self, desk: Desk, state: State, clock: Callable[[], float] = time.monotonic
     ) -> None:
         self._desk = desk
-        self.state = state
+        self.state, self._cut_before = state, state.cut
         self._clock = clock
         self._keyboard = Keyboard()
         self._arrivals = Arrivals()
@@ -335,8 +335,9 @@ class Screen:
         """Keeps what is typed at the end, and has it said if it can't be, or if it waits."""
         self._desk.keep_place(self.state)
         state = self.state
-        if not (state.typed or self._is_told_to_end):
-            # who ends it by themselves isn't in the middle of it
+        is_ended = not (state.typed or self._is_told_to_end)
+        if is_ended and state.cut == self._cut_before:
+            # who ends it by themselves was reminded of that as it began
             state = replace(state, cut=None)
         kept = self._desk.saved(state)
         if kept is not state and kept.typed is not None:
