@@ -524,15 +524,29 @@ def test_a_text_that_is_typed_on_at_the_tables_chooses_none_of_them(
     assert [each.text for each in Drafts(desk.path).given_up()] == [text]
 
 
-def test_a_table_is_looked_for_by_its_first_letters(desk: Desk) -> None:
+@pytest.mark.parametrize("letters", ["ue", "uu", "uex\b", "q u"])
+def test_a_table_is_looked_for_by_its_first_letters(
+    desk: Desk, monkeypatch: pytest.MonkeyPatch, letters: str
+) -> None:
+    monkeypatch.setattr(dialogs, "_SEARCH_SECONDS", 0.2)
+    monkeypatch.setattr("scribe.window.structure.table_names", lambda: ["ueb"])
+
     def look(names: QListWidget) -> None:
-        _HANDS.keyClicks(names, "ue")
+        for letter in letters:
+            if letter == " ":
+                # by which another search begins, for Qt too
+                time.sleep(2 * QApplication.keyboardInputInterval() / 1000)
+            elif letter == "\b":
+                _HANDS.keyClick(names, Qt.Key.Key_Backspace)
+            else:
+                _HANDS.keyClicks(names, letter)
         _HANDS.keyClick(names, Qt.Key.Key_Return)
+        assert not names.window().isVisible()
 
     _at_names(look)
     desk.act("table")
     assert desk.contents.paragraphs[0].table == "ueb"
-    assert Drafts(desk.path).given_up() == ()
+    assert all(len(each.text) > 2 for each in Drafts(desk.path).given_up())
 
 
 def test_no_dialog_opens_by_itself_while_hands_type(
@@ -608,7 +622,13 @@ def test_a_text_that_is_typed_on_at_a_report_is_set_aside(
 
 
 @pytest.mark.parametrize(
-    "keys", [[Qt.Key.Key_Down, Qt.Key.Key_Return], [Qt.Key.Key_X, Qt.Key.Key_Escape]]
+    "keys",
+    [
+        [Qt.Key.Key_Down, Qt.Key.Key_Return],
+        [Qt.Key.Key_X, Qt.Key.Key_Escape],
+        [Qt.Key.Key_X, Qt.Key.Key_Return],
+        [Qt.Key.Key_X, Qt.Key.Key_Down, Qt.Key.Key_Return],
+    ],
 )
 def test_a_report_is_read_and_closed_by_keys_that_type_nothing(
     desk: Desk, keys: list[Qt.Key]
@@ -624,7 +644,7 @@ def test_a_report_is_read_and_closed_by_keys_that_type_nothing(
 
     _at_report(read)
     desk.acting(lambda: desk.report("Export", ["One.", "Two."]))
-    assert blocks[0] == (keys[0] is Qt.Key.Key_Down)
+    assert blocks[-1] == (Qt.Key.Key_Down in keys)
     assert desk.window.message.text == ""
     assert Drafts(desk.path).given_up() == ()
 

@@ -104,6 +104,16 @@ def test_what_was_typed_is_not_lost_where_it_is_taken_back_and_what_was_done_bef
     assert _kept(desk) == ([whole], "")
 
 
+def test_each_text_that_was_typed_and_taken_back_is_set_aside_where_more_is(
+    desk: Desk,
+) -> None:
+    for text in ("So: ", "Oh, "):
+        _type(desk, text)
+        for _ in range(2):
+            desk.act("take_back")
+    assert _kept(desk) == (["Oh, The Moon", "So: The Moon"], "")
+
+
 def test_what_was_taken_back_is_not_given_up_any_more_once_it_is_typed_again(
     desk: Desk,
 ) -> None:

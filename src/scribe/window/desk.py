@@ -1086,7 +1086,7 @@ class Desk:
     ) -> int:
         """The answer to what no key has asked for; a text that was typed there is given up."""
         self._is_offering = True
-        self.work.wait_for_pause()
+        self.work.wait_for_pause(lambda: self.is_ending)
         its = self.window, title, asked, answers, self._keep_at_offer
         answer = offer(*its, *by_enter, holding=self.held.holding)
         if not self.is_ending:
@@ -1126,7 +1126,7 @@ class Desk:
 
     def report(self, title: str, lines: Sequence[str]) -> None:
         """Shows lines that can be read one by one; a text that was typed on there is given up."""
-        self.work.wait_for_pause()
+        self.work.wait_for_pause(lambda: self.is_ending)
         with self._taking_at_lines():
             dialogs.report(self.window, title, lines)
 
@@ -1278,7 +1278,8 @@ class Desk:
         """Takes back what was typed last. A text that was put in isn't lost by that."""
         before = self.draft()
         if not self.window.print.may_be_typed_again:
-            self._typed_whole = before
+            # what was taken back before that is typed again by no key
+            self._typed_whole, self._taken_back = before, None
         self.window.print.undo()
         if before is None or self.draft() is not None or before.text != self._put_in:
             return

@@ -503,35 +503,53 @@ def taking_at_search(
 
 
 class _BlindAtSearch(_BlindAtNames):
-    """The same at names that are looked for by their first letters: with others no name begins."""
+    """The same at names that are looked for by their first letters: with those of a text no name begins."""
 
     def __init__(self, typed: Callable[[str], None], names: Sequence[str]) -> None:
         super().__init__(typed, _READING_SECONDS)
         self._names = [name.casefold() for name in names]
-        self._came_at = -math.inf
+        # the letters that look for a name together, of which the last came then
+        self._sought, self._came_at = "", -math.inf
+        self._is_of_words = False
 
     def eventFilter(self, to: QObject | None, event: QEvent | None) -> bool:
-        """Lets letters look for a name, as long as one begins so; a pause ends that."""
+        """Has the list look for a name by letters, whether or not one begins so."""
         is_key = isinstance(event, QKeyEvent) and event.type() == QEvent.Type.KeyPress
         if isinstance(to, _Names) and isinstance(event, QKeyEvent) and is_key:
-            before, self._came_at = self._came_at, time.monotonic()
-            if self._begins(self._text) and self._came_at > before + _SEARCH_SECONDS:
-                self._text = ""
-            sought = self._text + event.text()
-            if is_letter(event) and self._begins(sought):
-                self._text = sought
+            if self._is_noted(event):
                 return False
         return super().eventFilter(to, event)
+
+    def _is_noted(self, event: QKeyEvent) -> bool:
+        """Whether a letter came, or one is taken away, of which note is taken."""
+        if event.key() == Qt.Key.Key_Backspace:
+            self._sought, self._text = self._sought[:-1], self._text[:-1]
+        elif is_letter(event):
+            before, self._came_at = self._came_at, time.monotonic()
+            is_further = self._came_at < before + _SEARCH_SECONDS
+            self._sought = (self._sought if is_further else "") + event.text()
+            self._text += event.text()
+            self._is_gone_to = False
+        else:
+            return False
+        is_word = len(self._sought.strip()) >= self._least and not self._is_search
+        self._is_of_words = self._is_of_words or is_word
+        self._hand_on(self._text.strip() if self._is_of_words else "")
+        return True
 
     def _after(self, event: QEvent | None) -> str | None:
         is_key = isinstance(event, QKeyEvent) and event.type() == QEvent.Type.KeyPress
         if isinstance(event, QKeyEvent) and is_key and event.key() in ENTER:
-            self._is_gone_to = self._is_gone_to or self._begins(self._text)
+            self._is_gone_to = self._is_gone_to or self._is_search
         return super()._after(event)
 
-    def _begins(self, text: str) -> bool:
-        """Whether a name begins so."""
-        return any(name.startswith(text.casefold()) for name in self._names)
+    @property
+    def _is_search(self) -> bool:
+        """Whether a name begins so; one letter again and again goes from name to name."""
+        sought = self._sought.casefold()
+        if len(set(sought)) == 1:
+            sought = sought[0]
+        return any(name.startswith(sought) for name in self._names)
 
 
 def taking_at_lines(
@@ -545,8 +563,13 @@ class _BlindAtLines(_Blind):
     """The same at lines, in which arrow keys and Space go on."""
 
     def _after(self, event: QEvent | None) -> str | None:
-        if isinstance(event, QKeyEvent) and event.key() in _ARROWS:
-            return None
+        is_key = isinstance(event, QKeyEvent) and event.type() == QEvent.Type.KeyPress
+        if isinstance(event, QKeyEvent) and is_key:
+            if event.key() in _ARROWS:
+                self._is_gone_to = True
+                return None
+            if event.key() in ENTER and not self._is_text:
+                return None
         return super()._after(event)
 
     def _say(self, to: QWidget) -> None:
