@@ -549,6 +549,18 @@ def test_a_table_is_looked_for_by_its_first_letters(
     assert all(len(each.text) > 2 for each in Drafts(desk.path).given_up())
 
 
+def test_a_window_that_is_ended_waits_for_no_hands(application: QApplication) -> None:
+    over, held = QMainWindow(), Held()
+    over.show()
+    assert wait(application, 60, lambda: over.windowHandle() is not None)
+    key = QKeyEvent(QEvent.Type.KeyPress, Qt.Key.Key_A, Qt.KeyboardModifier(0), "a")
+    QCoreApplication.sendEvent(over.windowHandle(), key)
+    assert held.is_typed_on
+    held.hurry()
+    assert not held.is_typed_on
+    held.stop()
+
+
 def test_no_dialog_opens_by_itself_while_hands_type(
     application: QApplication, monkeypatch: pytest.MonkeyPatch
 ) -> None:

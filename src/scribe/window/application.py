@@ -212,6 +212,7 @@ class Application:
 
     def _end(self) -> None:
         self._desk.is_ending = True
+        self._desk.held.hurry()
         self._qt.exit()
 
     def _take_signals(

@@ -1086,7 +1086,7 @@ class Desk:
     ) -> int:
         """The answer to what no key has asked for; a text that was typed there is given up."""
         self._is_offering = True
-        self.work.wait_for_pause(lambda: self.is_ending)
+        self.work.wait_for_pause()
         its = self.window, title, asked, answers, self._keep_at_offer
         answer = offer(*its, *by_enter, holding=self.held.holding)
         if not self.is_ending:
@@ -1126,7 +1126,7 @@ class Desk:
 
     def report(self, title: str, lines: Sequence[str]) -> None:
         """Shows lines that can be read one by one; a text that was typed on there is given up."""
-        self.work.wait_for_pause(lambda: self.is_ending)
+        self.work.wait_for_pause()
         with self._taking_at_lines():
             dialogs.report(self.window, title, lines)
 

@@ -85,8 +85,8 @@ class Held(QObject):
         self._let_go_at = 0
         # whether the window for which it is isn't shown any more
         self._is_over = False
-        # when a letter came last
-        self._typed_at = -math.inf
+        # when a letter came last, and whether that counts no more
+        self._typed_at, self._is_hurried = -math.inf, False
         self._soon = QTimer(self)
         self._soon.setSingleShot(True)
         self._soon.timeout.connect(self._obey)
@@ -98,7 +98,13 @@ class Held(QObject):
     @property
     def is_typed_on(self) -> bool:
         """Whether hands are typing: what comes in the moment in which a dialog opens, nobody gets."""
-        return time.monotonic() < self._typed_at + _PAUSE_SECONDS
+        return (
+            not self._is_hurried and time.monotonic() < self._typed_at + _PAUSE_SECONDS
+        )
+
+    def hurry(self) -> None:
+        """Has nothing wait any more until hands type no more, since the window is ended from outside."""
+        self._is_hurried = True
 
     def end(self) -> None:
         """Holds all that is pressed from now on, since nothing is shown any more on which it could act."""

@@ -96,11 +96,11 @@ class Worker(QObject):
         """Whether hands are typing, so that no dialog opens by itself yet."""
         return self._held.is_typed_on
 
-    def wait_for_pause(self, is_over: Callable[[], bool]) -> None:
-        """Waits until hands don't type any more, before a dialog opens by itself, or something is over."""
+    def wait_for_pause(self) -> None:
+        """Waits until hands don't type any more, before a dialog opens by itself."""
         timer = QTimer()
         timer.start(_LOOK_MILLISECONDS)
-        self.wait_until(lambda: is_over() or not self.is_typed_on)
+        self.wait_until(lambda: not self.is_typed_on)
         timer.stop()
 
     def post(
