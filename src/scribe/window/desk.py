@@ -1125,8 +1125,12 @@ class Desk:
         self._keep_held()
 
     def report(self, title: str, lines: Sequence[str]) -> None:
-        """Shows lines that can be read one by one; a text that was typed on there is given up."""
+        """Shows lines that no key has asked for, once nobody types."""
         self.work.wait_for_pause()
+        self.show_lines(title, lines)
+
+    def show_lines(self, title: str, lines: Sequence[str]) -> None:
+        """Shows lines that can be read one by one; a text that was typed on there is given up."""
         with self._taking_at_lines():
             dialogs.report(self.window, title, lines)
 

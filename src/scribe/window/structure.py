@@ -139,4 +139,4 @@ class Structure:
         desk, number = self.desk, self.desk.settled()
         found = paragraph_history(desk.book.session, desk.chosen, _HISTORY_COLUMNS)
         lines = desk.asked(lambda: list(found)) or [nothing_found(None, ())]
-        desk.report(f"History of paragraph {number}", lines)
+        desk.show_lines(f"History of paragraph {number}", lines)

@@ -102,7 +102,7 @@ class View:
 
     def keys(self) -> None:
         """Shows each action with its keys."""
-        self.desk.report("Keys", key_lines())
+        self.desk.show_lines("Keys", key_lines())
 
     def copy_unicode(self) -> None:
         """Copies the cells that are selected, or all, as characters of Unicode."""
