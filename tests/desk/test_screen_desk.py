@@ -621,6 +621,18 @@ def test_pages_that_may_be_another_book_s_are_said_to_be_where_none_could_be_cop
     assert "of another file that was at the book's path." in sat.state.pages.lines[-2]
 
 
+def test_nothing_is_said_of_another_file_where_a_book_is_only_removed_while_it_is_exported(
+    moon: Path, sit: Sit, monkeypatch: pytest.MonkeyPatch, tmp_path: Path
+) -> None:
+    sat = sit(moon)
+    monkeypatch.setattr(tempfile, "tempdir", str(tmp_path / "missing"))
+    before_it(monkeypatch, lambda: os.unlink(moon))
+    sat.press("x", *str(moon.parent), "enter")
+    sat.state = sat.desk.away(sat.state, lambda _: None)
+    assert sat.state.pages is not None
+    assert not any("another file" in line for line in sat.state.pages.lines)
+
+
 def test_nobody_else_has_the_book_while_a_document_is_read(
     moon: Path, other: Path, sit: Sit, monkeypatch: pytest.MonkeyPatch
 ) -> None:

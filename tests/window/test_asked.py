@@ -504,14 +504,20 @@ def test_an_enter_that_is_held_down_gives_no_answer_to_a_dialog_that_it_opened(
     assert stays == [True]
 
 
-@pytest.mark.parametrize("text", ["een zin", "hallo", "ueb is it"])
+@pytest.mark.parametrize("text", ["een zin", "hallo", "ueb is it", "the road to\nue"])
 def test_a_text_that_is_typed_on_at_the_tables_chooses_none_of_them(
-    desk: Desk, text: str
+    desk: Desk, monkeypatch: pytest.MonkeyPatch, text: str
 ) -> None:
+    monkeypatch.setattr(dialogs, "_SEARCH_SECONDS", 0.2)
+    parts = text.split("\n")
+    text = "".join(parts)
+
     def type_on(names: QListWidget) -> None:
         dialog = names.window()
-        for letter in text:
-            _HANDS.keyClicks(names, letter)
+        for part in parts:
+            _HANDS.keyClicks(names, part)
+            # by which another search begins
+            time.sleep(0.3 * (len(parts) - 1))
         for _ in range(2):
             _HANDS.keyClick(dialog.focusWidget(), Qt.Key.Key_Return)
         assert not dialog.isVisible()
@@ -524,7 +530,7 @@ def test_a_text_that_is_typed_on_at_the_tables_chooses_none_of_them(
     assert [each.text for each in Drafts(desk.path).given_up()] == [text]
 
 
-@pytest.mark.parametrize("letters", ["ue", "uu", "uex\b", "q u"])
+@pytest.mark.parametrize("letters", ["ue", "uu", "uex\b", "q u", "q\t", "xq\b\b u"])
 def test_a_table_is_looked_for_by_its_first_letters(
     desk: Desk, monkeypatch: pytest.MonkeyPatch, letters: str
 ) -> None:
@@ -538,6 +544,9 @@ def test_a_table_is_looked_for_by_its_first_letters(
                 time.sleep(2 * QApplication.keyboardInputInterval() / 1000)
             elif letter == "\b":
                 _HANDS.keyClick(names, Qt.Key.Key_Backspace)
+            elif letter == "\t":
+                _HANDS.keyClick(names, Qt.Key.Key_End)
+                _HANDS.keyClick(names, Qt.Key.Key_Up)
             else:
                 _HANDS.keyClicks(names, letter)
         _HANDS.keyClick(names, Qt.Key.Key_Return)

@@ -114,6 +114,17 @@ def test_each_text_that_was_typed_and_taken_back_is_set_aside_where_more_is(
     assert _kept(desk) == (["Oh, The Moon", "So: The Moon"], "")
 
 
+def test_what_was_typed_after_a_text_that_was_brought_back_is_set_aside_where_more_is_taken_back(
+    desk: Desk, first: None
+) -> None:
+    desk.put_by(EDIT)
+    desk.act("bring_back")
+    _type(desk, " So.")
+    for _ in range(3):
+        desk.act("take_back")
+    assert _kept(desk) == ([f"{EDIT.text} So.", EDIT.text], "")
+
+
 def test_what_was_taken_back_is_not_given_up_any_more_once_it_is_typed_again(
     desk: Desk,
 ) -> None:

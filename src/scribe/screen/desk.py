@@ -127,7 +127,7 @@ from scribe.words.drafts import (
     taken_back_in_part,
     where_typed,
 )
-from scribe.words.export import MAY_BE_OF_OTHER, copy_of_open
+from scribe.words.export import copy_of_open, may_be_of_other
 from scribe.words.import_text import read_again
 from scribe.words.links import led
 from scribe.words.paragraph import counted, part_of
@@ -428,13 +428,15 @@ class Desk:
             before = state
             state = self._opened_again(state)
         except Lost as lost:
-            if isinstance(action, ExportTo) and isinstance(lost, Displaced):
-                ending = replace(ending, lines=(*ending.lines, MAY_BE_OF_OTHER))
+            if isinstance(action, ExportTo):
+                others = may_be_of_other(self.path, lost)
+                ending = replace(ending, lines=(*ending.lines, *others))
             return _with_report(self._after_loss(state, lost), ending)
         except DeskError as failed:
             return _closed(state, failed.reason, ending.lines)
         except OSError as failure:
-            return _closed(state, of_system(failure), ending.lines)
+            # whether the book is where it was isn't known
+            return _closed(state, of_system(failure, ""), ending.lines)
         return self._drawn(_after_closed(before, state, ending))
 
     def keep_place(self, state: State) -> None:

@@ -1295,8 +1295,9 @@ class Desk:
     def give_up_taken_back(self) -> None:
         """Gives up what was typed and taken back, which no key types again once more is taken back."""
         whole, self._typed_whole = self._typed_whole, None
-        is_there = self.window.print.may_be_typed_again and self._taken_back is None
-        if whole is not None and is_there:
+        if whole is None or not self.window.print.may_be_typed_again:
+            return
+        if self._taken_back is None or self._taken_back.text != whole.text:
             self._taken_back = whole
             said = f"{typed_and_taken_back(whole.text)} {self.put_by(whole)}"
             self._of_taken_back = visible(said)

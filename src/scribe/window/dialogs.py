@@ -62,6 +62,11 @@ _SEARCH_SECONDS = 1.0
 # keys that go from one button to another, of which the last are those of a text too
 _TABS = (Qt.Key.Key_Tab, Qt.Key.Key_Backtab)
 _ARROWS = (*(Qt.Key.Key_Left, Qt.Key.Key_Right), *(Qt.Key.Key_Up, Qt.Key.Key_Down))
+# keys that go from one name to another
+_TO_NAMES = (
+    *(*_ARROWS, Qt.Key.Key_Home, Qt.Key.Key_End),
+    *(Qt.Key.Key_PageUp, Qt.Key.Key_PageDown),
+)
 # what is said where a text or Space came that answers nothing, or is typed where lines are read
 _NO_ANSWER = "What is typed here is no answer. Tab goes to one, and Enter gives it."
 _NO_NAME = (
@@ -531,16 +536,21 @@ class _BlindAtSearch(_BlindAtNames):
             self._text += event.text()
             self._is_gone_to = False
         else:
+            if event.key() in _TO_NAMES:
+                self._sought = ""
             return False
         is_word = len(self._sought.strip()) >= self._least and not self._is_search
-        self._is_of_words = self._is_of_words or is_word
+        # where all of it looks for a name, what was taken away again counts no more
+        is_more = self._is_of_words and self._text != self._sought
+        self._is_of_words = is_word or is_more
         self._hand_on(self._text.strip() if self._is_of_words else "")
         return True
 
     def _after(self, event: QEvent | None) -> str | None:
         is_key = isinstance(event, QKeyEvent) and event.type() == QEvent.Type.KeyPress
         if isinstance(event, QKeyEvent) and is_key and event.key() in ENTER:
-            self._is_gone_to = self._is_gone_to or self._is_search
+            is_found = self._is_search and not self._is_of_words
+            self._is_gone_to = self._is_gone_to or is_found
         return super()._after(event)
 
     @property

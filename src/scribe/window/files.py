@@ -28,7 +28,7 @@ from scribe.window.desk import Desk
 from scribe.window.dialogs import IsStopped, Say
 from scribe.words.console import Console, Heard
 from scribe.words.deeds import changed_between
-from scribe.words.export import MAY_BE_OF_OTHER, copy_of_open, export_in_words
+from scribe.words.export import copy_of_open, export_in_words, may_be_of_other
 from scribe.words.status import (
     Interrupted,
     Stop,
@@ -277,8 +277,8 @@ class Files:
         try:
             contents, lines = desk.long(title, whole)
         except Lost as lost:
-            may_be = title != "Import" and isinstance(lost, Displaced)
-            self._lost(title, [*done, *[MAY_BE_OF_OTHER] * may_be], lost)
+            others = may_be_of_other(desk.path, lost) if title != "Import" else ()
+            self._lost(title, [*done, *others], lost)
             return
         except (DeskError, OSError) as failed:
             raise self._closed(title, done, failed) from failed

@@ -1,11 +1,12 @@
 """An export in words: what became of each volume."""
 
+import os
 from collections.abc import Callable, Iterator, Sequence
 from contextlib import ExitStack, contextmanager
 from dataclasses import replace
 from pathlib import Path
 
-from braildesk import DeskError, Lost, Session, check
+from braildesk import DeskError, Displaced, Lost, Session, check
 from braildesk.desk.export import (
     BookChanges,
     Differences,
@@ -29,8 +30,11 @@ from scribe.words.paragraph import counted
 from scribe.words.status import Interrupted, Status, may_not_last, stopped_by
 
 
-#: What is said of files that were made while the book was closed, if another file is at its path then.
-MAY_BE_OF_OTHER = "What was written may be of another file that was at the book's path."
+def may_be_of_other(path: Path, lost: Lost) -> tuple[str, ...]:
+    """What is said of files that were made while the book was closed, if another is at its path by now."""
+    if not isinstance(lost, Displaced) or not os.path.lexists(path):
+        return ()
+    return ("What was written may be of another file that was at the book's path.",)
 
 
 @contextmanager
