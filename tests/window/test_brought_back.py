@@ -114,6 +114,19 @@ def test_each_text_that_was_typed_and_taken_back_is_set_aside_where_more_is(
     assert _kept(desk) == (["Oh, The Moon", "So: The Moon"], "")
 
 
+def test_what_was_typed_and_taken_away_is_set_aside_where_more_is_taken_back(
+    desk: Desk,
+) -> None:
+    desk.act("new_after")
+    _type(desk, "It rose.")
+    desk.window.print.selectAll()
+    desk.window.print.textCursor().removeSelectedText()
+    for _ in range(3):
+        desk.act("take_back")
+    assert desk.new is None
+    assert _kept(desk) == (["It rose."], "")
+
+
 def test_what_was_typed_after_a_text_that_was_brought_back_is_set_aside_where_more_is_taken_back(
     desk: Desk, first: None
 ) -> None:

@@ -117,7 +117,8 @@ def answered(monkeypatch: pytest.MonkeyPatch) -> list[str]:
 def test_an_import_that_is_cancelled_is_gone_on_with(
     desk: Desk, cancelled: Cancelled, tmp_path: Path, answered: list[str]
 ) -> None:
-    text, line = tmp_path / "long.txt", "The moon is far away. " * 20
+    # more than is on its way at once
+    text, line = tmp_path / "long.txt", "The moon is far away. " * 100
     text.write_text("\n\n".join(f"{n}. {line}" for n in range(1, MANY + 1)))
     said = cancelled("1 of", lambda: desk.window.dropped.emit(text))
     count = len(desk.contents.paragraphs) - 3

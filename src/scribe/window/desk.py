@@ -137,7 +137,7 @@ class Desk:
     _taken_back: Draft | None = None
     # what is said of that, as long as it is given up
     _of_taken_back = ""
-    # all that was typed, as the first of it was taken back
+    # the longest of what was typed, of which something was taken back
     _typed_whole: Draft | None = None
     # the print from which what is typed was typed, where that was another one
     _typed_from: str | None = None
@@ -1285,12 +1285,19 @@ class Desk:
             # what was taken back before that is typed again by no key
             self._typed_whole, self._taken_back = before, None
         self.window.print.undo()
+        self._note_whole(self.draft())
         if before is None or self.draft() is not None or before.text != self._put_in:
             return
         self._taken_back = before
         said = f"Given up. The book is as it was. {self.put_by(before)}"
         self._of_taken_back = visible(said)
         self.say(said)
+
+    def _note_whole(self, now: Draft | None) -> None:
+        """Notes the longest of what was typed: what is taken back may be that it was taken away."""
+        whole = self._typed_whole
+        if now is not None and (whole is None or len(now.text) > len(whole.text)):
+            self._typed_whole = now
 
     def give_up_taken_back(self) -> None:
         """Gives up what was typed and taken back, which no key types again once more is taken back."""
