@@ -164,26 +164,6 @@ def test_what_was_cut_is_put_in_also_after_an_end_by_a_key(
     assert again.ended() == 0
 
 
-def test_what_was_cut_is_kept_until_it_was_said_where_a_text_is_asked_about_first(
-    moon: Path, at: Open
-) -> None:
-    terminal = at(moon)
-    terminal.wait("? shows the keys.")
-    terminal.keys("o", "It rose.")
-    terminal.wait("It rose.")
-    terminal.keys("c-w", "Yes")
-    terminal.wait("It Yes")
-    terminal.hang_up()
-    check_has_ended(terminal, HUNG_UP)
-    again = at(moon)
-    again.wait("further? y is yes, n is no.")
-    again.answer("n")
-    again.wait("Given up")
-    again.keys("q")
-    assert again.ended() == 0
-    at(moon).wait("“rose.” was cut out of what was typed. Ctrl-Y puts it in")
-
-
 def test_lines_that_were_pasted_and_not_answered_for_are_asked_about_again(
     moon: Path, at: Open
 ) -> None:

@@ -42,7 +42,6 @@ from scribe.screen.arrivals import (
 )
 from scribe.screen.desk import Desk, preview_of, with_preview
 from scribe.screen.drawing import Drawing, draw
-from scribe.screen.field import Cut
 from scribe.screen.keyboard import Keyboard, Pasted, Stroke
 from scribe.screen.keys import is_obeyed
 from scribe.screen.lines import CHOSEN, HEAD, HIGHLIGHTED, MARKED, PLAIN
@@ -216,11 +215,6 @@ def agree_on_widths() -> None:
     utils._CHAR_SIZES_CACHE.update({chr(code): 0 for code in JOINING_JAMO})
 
 
-def _cut_said(desk: Desk, state: State) -> Cut | None:
-    """What was said to be cut as the book was opened: nothing where a text was asked about there."""
-    return None if desk.has_waiting else state.cut
-
-
 class Screen:
     """A book on the terminal of this process, until the person ends it."""
 
@@ -228,7 +222,7 @@ class Screen:
         self, desk: Desk, state: State, clock: Callable[[], float] = time.monotonic
     ) -> None:
         self._desk = desk
-        self.state, self._cut_before = state, _cut_said(desk, state)
+        self.state, self._cut_before = state, state.cut
         self._clock = clock
         self._keyboard = Keyboard()
         self._arrivals = Arrivals()
