@@ -18,7 +18,7 @@ def begun(
 ) -> tuple[Pipe, OpenFile]:
     """The pipes to the program, which begins to open a book, and the file that is held beside it."""
     words = programs.session_words(book, program)
-    programs.judge(book, words[0])
+    programs.judge(book, words[0], while_waiting)
     file = OpenFile(book.real)
     try:
         return Pipe(words, book, while_waiting), file

@@ -50,7 +50,7 @@ def held(book: BookFile, flags: int = os.O_RDONLY) -> Iterator[BinaryIO]:
             raise cannot_open(book, Why.IN_USE)
         if not is_at_path(book, file):
             # another one was put there in this moment
-            raise cannot_open(book, Why.IN_USE)
+            raise cannot_open(book, Why.REPLACED)
         if not are_kept(book.real, file):
             raise cannot_open(book, Why.NO_LOCKS)
         if no_log := why_no_log(book.log):

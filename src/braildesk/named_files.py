@@ -80,6 +80,11 @@ def is_handed_over(path: StrPath) -> bool:
     return not (is_pipe and way == os.O_WRONLY)
 
 
+def is_descriptor(path: StrPath) -> bool:
+    """Whether a name means what this process has open, and not what a folder has."""
+    return _descriptor(path) is not None
+
+
 def _descriptor(path: StrPath) -> int | None:
     """The descriptor that a name means, if it is the name of one."""
     found = _OPEN.fullmatch(fspath(path))

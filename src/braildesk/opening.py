@@ -46,6 +46,8 @@ _BESIDE = ("-wal", "-shm", "-journal")
 _OF_SYSTEM = ("/proc/", "/sys/", "/dev/fd/", "/dev/std")
 #: With less room than this on its disk a book may not be kept, in bytes.
 _LITTLE = 2**20
+#: How often a file that isn't there is looked for once more, and how long it is waited in between.
+_LOOKS, _BETWEEN = 5, 0.01
 
 
 def word(path: str | PathLike[str]) -> str | None:
@@ -175,11 +177,22 @@ def _why(asked: AskedOfFile) -> Why:
     try:
         return _why_not_regular(asked.path) or _why_regular(asked)
     except (FileNotFoundError, NotADirectoryError):
-        return _why_not_made(asked.path) if isinstance(asked, NewBook) else Why.MISSING
+        if isinstance(asked, NewBook):
+            return _why_not_made(asked.path)
+        return Why.REPLACED if _comes_back(asked.path) else Why.MISSING
     except PermissionError:
         return Why.DENIED
     except (OSError, ValueError):
         return Why.UNKNOWN
+
+
+def _comes_back(path: str) -> bool:
+    """Whether a file that wasn't at a path is there a moment later, as where others exchange two."""
+    for _ in range(_LOOKS):
+        if os.path.exists(path):
+            return True
+        time.sleep(_BETWEEN)
+    return False
 
 
 def _why_not_made(path: str) -> Why:
@@ -647,6 +660,8 @@ Result = TypeVar("Result")
 _FIRST_PAUSE, _LONGEST_PAUSE = 0.02, 0.25
 #: How often it is tried again, if the cause isn't seen: the other program ended before it was looked for.
 _UNSEEN = 4
+#: What may be over soon, and is waited for.
+_PASSING = (Why.IN_USE, Why.LOG_IN_USE, Why.REPLACED)
 
 
 def waited(attempt: Callable[[], Result], seconds: float) -> Result:
@@ -658,8 +673,8 @@ def waited(attempt: Callable[[], Result], seconds: float) -> Result:
             return attempt()
         except CannotOpen as refusal:
             left = until - time.monotonic()
-            is_used = refusal.why in (Why.IN_USE, Why.LOG_IN_USE) and left > 0
-            is_unseen = refusal.why is Why.UNKNOWN
+            is_used = refusal.why in _PASSING and left > 0
+            is_unseen = refusal.why in (Why.UNKNOWN, Why.REPLACED)
             unseen += is_unseen
             if not is_used and not (is_unseen and unseen <= _UNSEEN):
                 raise

@@ -28,6 +28,10 @@ _PATIENCE = 2.0
 #: Of so many replies to commands that are to come none is waited for by itself, since the program would
 #: wake this process for each, but what comes within so many seconds.
 _MANY, _PAUSE = 64, 0.001
+#: So many seconds are taken by what is under way, as far as is known, and so long anybody waits who stops.
+_SECONDS_AHEAD = 0.5
+#: So many requests are under way before it is known how long they take, and at least.
+_FIRST, _LEAST = 16, 4
 
 
 @dataclass(frozen=True, eq=False, repr=False)
@@ -54,6 +58,27 @@ class Steps:
     def __exit__(self, kind: type[BaseException] | None, *_: object) -> None:
         if kind is None:
             self.are_interrupted = False
+
+
+class Pace:
+    """How many requests may be under way, by how quickly those before them were answered."""
+
+    def __init__(self, most: int, clock: Callable[[], float] = time.monotonic) -> None:
+        self._most, self._clock = most, clock
+        self.ahead = min(_FIRST, most)
+        # how many were answered since when
+        self._count, self._since = 0, clock()
+
+    def answered(self) -> None:
+        """Sees that one more was answered."""
+        self._count += 1
+        if 2 * self._count < self.ahead:
+            return
+        now = self._clock()
+        taken = max(now - self._since, 0.001)
+        soon = int(_SECONDS_AHEAD * self._count / taken)
+        self.ahead = max(min(soon, 2 * self.ahead, self._most), min(_LEAST, self._most))
+        self._count, self._since = 0, now
 
 
 class Pipe:

@@ -8,6 +8,7 @@ import subprocess
 from collections.abc import Callable, Iterable, Iterator
 from contextlib import contextmanager, nullcontext
 from dataclasses import replace
+from functools import partial
 from os import PathLike, fspath
 from pathlib import Path
 from subprocess import DEVNULL, PIPE, Popen
@@ -60,6 +61,8 @@ StrPath = str | PathLike[str]
 _CHECKOUT = Path(__file__).resolve().parents[2]
 #: How long the program is waited for before it is asked whether it still is to be, in seconds.
 _PAUSE = 0.2
+#: The same while a book is judged that is to be opened.
+_LONG_PAUSE = 1.0
 #: What the program isn't asked of at all.
 _NOT_A_BOOK = (Why.COMPUTED, Why.TOO_LONG)
 #: Why a book isn't opened whose log can't be judged, or is to be judged once nobody else has the book.
@@ -69,6 +72,7 @@ _NOT_ASKED = (
     Why.LOG_STAYS,
     Why.LOG_READ,
     Why.IN_USE,
+    Why.REPLACED,
     Why.LOG_IN_USE,
     Why.NO_LOG,
     Why.NO_LOCKS,
@@ -262,10 +266,13 @@ def strange(program: StrPath | None, answer: bytes) -> Failed:
     )
 
 
-def judge(asked: AskedOfFile, program: str) -> None:
+def judge(
+    asked: AskedOfFile, program: str, while_waiting: Callable[[], None] = lambda: None
+) -> None:
     """Refuses a book for what is seen of its files, before the program opens and changes them.
 
-    What can't be judged here is left to the program.
+    What can't be judged here is left to the program. For each second in which that doesn't answer
+    about a copy, ``while_waiting`` is called.
     """
     if isinstance(asked, TableFile):
         return
@@ -273,7 +280,7 @@ def judge(asked: AskedOfFile, program: str) -> None:
         raise cannot_open(asked, Why.LED_AWAY)
     _judge_file(asked)
     try:
-        fault = _fault_of(asked, program)
+        fault = _fault_of(asked, program, while_waiting)
         if fault is None:
             fit_log(_book_of(asked))
     except CannotOpen as refusal:
@@ -308,21 +315,26 @@ def _judge_file(asked: AskedOfFile) -> None:
         raise cannot_open(asked, Why.TOO_LARGE_FOR_BOOK)
 
 
-def _fault_of(asked: AskedOfFile, program: str) -> Why | None:
+def _fault_of(
+    asked: AskedOfFile, program: str, while_waiting: Callable[[], None]
+) -> Why | None:
     """What is seen of the files of a book that keeps it from being opened."""
     path, log = asked.real, asked.log
     with held(_book_of(asked)):
         fault = fault_in(path, is_alone=True)
         is_foreign = fault is None and is_of_others(path)
     if fault not in _NOT_A_BOOK and has_work(log):
-        return _fault_with_log(asked, log, program)
+        look = partial(_refusal_of, program, asked, while_waiting)
+        return _fault_with_log(asked, log, look)
     if is_foreign:
         # beside that the program would leave a log
         raise refused(Code.NOT_A_BOOK, asked)
     return fault
 
 
-def _fault_with_log(asked: AskedOfFile, log: str, program: str) -> Why | None:
+def _fault_with_log(
+    asked: AskedOfFile, log: str, refusal_of: Callable[[Path], DeskError | None]
+) -> Why | None:
     """The same if a log has work, which may be that of another book: copies of both are tried.
 
     What isn't a book with it is refused by that: the program would put the log into the file first.
@@ -335,9 +347,9 @@ def _fault_with_log(asked: AskedOfFile, log: str, program: str) -> Why | None:
         fault = fault_in(both, is_alone=False)
         if fault in _NOT_A_BOOK:
             return fault
-        refusal = None if fault else _refusal_of(both, program, asked)
+        refusal = None if fault else refusal_of(both)
         is_whole = fault is None and refusal is None
-        is_of_another = _refusal_of(alone, program, asked) is None and not (
+        is_of_another = refusal_of(alone) is None and not (
             is_whole and goes_on(alone, both, changes)
         )
         is_foreign = fault is None and is_of_others(both)
@@ -350,14 +362,16 @@ def _fault_with_log(asked: AskedOfFile, log: str, program: str) -> Why | None:
     return fault
 
 
-def _refusal_of(path: Path, program: str, asked: AskedOfFile) -> DeskError | None:
+def _refusal_of(
+    program: str, asked: AskedOfFile, while_waiting: Callable[[], None], path: Path
+) -> DeskError | None:
     """Why the program finds no book in a copy of what is asked of, if it doesn't."""
     words = [program, "check", "--", str(path)]
     # nothing was seen of its files yet, and the program may make a log
     given = NewBook(str(path))
     with started(given, lambda: _piped(words, DEVNULL, ())) as check:
         try:
-            _answered_by(check, asked)
+            _answered_by(check, asked, while_waiting, _LONG_PAUSE)
         except DeskError as refusal:
             return refusal
         finally:
@@ -467,7 +481,8 @@ def _run(
     # from a pipe it might read so slowly that the writing had to be waited for
     given = _in_memory(sent, "print") if sent else nullcontext(DEVNULL)
     with given as source:
-        with _begun(program, words, asked, shared, source) as process:
+        its = words, asked, shared, source, while_waiting
+        with _begun(program, *its) as process:
             beside()
             return _answered_by(process, asked, while_waiting)
 
@@ -479,10 +494,11 @@ def _begun(
     asked: AskedOfFile,
     shared: tuple[int, ...] = (),
     source: int = DEVNULL,
+    while_waiting: Callable[[], None] = lambda: None,
 ) -> Iterator[Popen[bytes]]:
     """The program at work, which is ended by a signal if its end isn't waited for."""
     found = find(program)
-    judge(asked, found)
+    judge(asked, found, while_waiting)
     # what is asked may name another path than the program gets
     given = replace(asked, path=words[words.index("--") + 1])
     try:
@@ -505,11 +521,12 @@ def _answered_by(
     process: Popen[bytes],
     asked: AskedOfFile,
     while_waiting: Callable[[], None] = lambda: None,
+    pause: float = _PAUSE,
 ) -> bytes:
     """What the program answers, which comes to its end by that."""
     while True:
         try:
-            output, errors = process.communicate(timeout=_PAUSE)
+            output, errors = process.communicate(timeout=pause)
             break
         except subprocess.TimeoutExpired:
             while_waiting()

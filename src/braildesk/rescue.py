@@ -68,6 +68,17 @@ class Rescue:
             " was open: it isn't that book any more."
         )
 
+    def set_back(self, version: int, before: int) -> tuple[str, str]:
+        """That others wrote into the file while it was closed, which has an earlier version by that."""
+        cause = (
+            f"Another program wrote into the file of the book, {_shown(self._book.path)}, while it was"
+            f" closed: it is at version {version:,} now, and was at {before:,} before."
+        )
+        return cause, (
+            "What was kept before isn't all there any more. Copy what you typed last, and look at what"
+            " stands there before you go on."
+        )
+
     def without_log(self) -> str:
         """That the log isn't at its path any more, once all of it is in the file."""
         return (

@@ -17,7 +17,7 @@ from braildesk.asking import Asking
 from braildesk.beginning import Beginning, begun
 from braildesk.openfile import OpenFile
 from braildesk.opening import waited
-from braildesk.pipe import Ending, Pipe
+from braildesk.pipe import Ending, Pace, Pipe
 from braildesk.program import StrPath
 from braildesk.protocol import requests
 from braildesk.protocol.answers import Answer
@@ -81,6 +81,7 @@ class Session(Asking):
         #: The requests of ``each`` whose answers weren't taken yet, in order.
         self._sent: deque[Request[Any] | Refused] = deque()
         self._is_streaming = False
+        self._pace = Pace(_AHEAD)
         self._owner = _here()
         self._is_closed = False
         #: Whether the file isn't looked at any more, since what it held is being saved.
@@ -155,19 +156,36 @@ class Session(Asking):
             raise self._lose(SessionEnded, _ended(ending))
         self._file.close()
 
+    def hasten(self) -> None:
+        """Has a program that doesn't answer be waited for no longer than for a while, and then ended."""
+        self._pipe.hasten()
+
     def _missed(self, held: "HeldFile") -> Lost:
         """The exception of a file that is held, and isn't at its path any more, with all of it saved."""
         self._file, self._seen = held.file, held.version
         return self._displaced()
 
+    def _set_back(self, held: "HeldFile") -> Lost:
+        """The exception of a file that is held, and was written over in place while it was closed."""
+        self._is_closed = True
+        self._pipe.close()
+        cause, kept = self._rescue.set_back(self._seen, held.version)
+        self._file.close()
+        self._seen = held.version
+        self._lost = lost = self._lost_as(Displaced, cause, kept)
+        return lost
+
     def guard(self, held: "HeldFile | None" = None) -> None:
         """Has the session look after what an earlier one kept as after what it keeps itself.
 
-        If the file that this one had is held still, and another is open here, ``Displaced`` is raised.
+        If the file that this one had is held still, and another is open here, ``Displaced`` is raised; so
+        it is if others wrote an earlier version, or another book, into that file.
         """
         if held is not None and not held.file.is_same(self._file):
             self._file.close()
             raise self._missed(held)
+        if held is not None and self._seen < held.version:
+            raise self._set_back(held)
         self._is_at_stake = True
 
     @property
@@ -230,6 +248,7 @@ class Session(Asking):
     ) -> Generator[Any, None, None]:
         """Nothing once the first requests are sent, and then the answers."""
         self._is_streaming = True
+        self._pace = Pace(_AHEAD)
         count = 0
         try:
             is_more = self._send_ahead(source)
@@ -237,6 +256,7 @@ class Session(Asking):
             yield None
             while is_more:
                 value = self._next_value()
+                self._pace.answered()
                 count += 1
                 if progress is not None:
                     progress(count)
@@ -307,9 +327,10 @@ class Session(Asking):
         There has to be room for a group of them, since few at a time take longer.
         """
         self._judge_open()
-        if len(self._sent) > _AHEAD - _GROUP:
+        ahead = self._pace.ahead
+        if len(self._sent) > ahead - min(_GROUP, ahead // 2):
             return True
-        while len(self._sent) < _AHEAD and self._pipe.queued_bytes < _AHEAD_BYTES:
+        while len(self._sent) < ahead and self._pipe.queued_bytes < _AHEAD_BYTES:
             request = next(source, None)
             if request is None:
                 break

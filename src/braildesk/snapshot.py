@@ -34,17 +34,18 @@ _HEADER = 32
 
 
 @contextmanager
-def snapshot(path: StrPath) -> Iterator[Path]:
+def snapshot(path: StrPath, like: int | None = None) -> Iterator[Path]:
     """A copy of a book in a temporary folder, while another program may have the book open.
 
     It holds every command that was kept before this was called, and maybe some that were kept
-    meanwhile. Nothing is made or changed beside the book's file, and nobody has to wait.
+    meanwhile. Nothing is made or changed beside the book's file, and nobody has to wait. If it is to
+    be that of a descriptor, no other is copied that stands at the path for a moment.
     """
     book = BookFile.of(path)
     with ExitStack() as stack:
         try:
             copied = stack.enter_context(made_for_a_while())
-            _copy(book, copied)
+            _copy(book, copied, like)
         except OSError as error:
             raise _not_copied(book, error) from error
         yield copied
@@ -58,12 +59,12 @@ def copied_session(path: StrPath) -> Iterator[tuple[Session, Path]]:
 
 
 @contextmanager
-def copied(path: StrPath) -> Iterator[Path]:
-    """A copy that may be opened, also of a book that may only be read.
+def copied(path: StrPath, like: int | None = None) -> Iterator[Path]:
+    """A copy that may be opened, also of a book that may only be read, as ``snapshot`` makes it.
 
     What is refused of the copy names the book itself.
     """
-    with snapshot(path) as copy:
+    with snapshot(path, like) as copy:
         copy.chmod(copy.stat().st_mode & 0o777 | 0o600)
         try:
             yield copy
@@ -75,22 +76,26 @@ def copied(path: StrPath) -> Iterator[Path]:
             raise refused_as(replace(refusal.refusal, asked=book)) from None
 
 
-def _copy(book: BookFile, copied: Path) -> None:
+def _copy(book: BookFile, copied: Path, like: int | None) -> None:
     """Copies a book and its log until they stayed the same ones meanwhile."""
     until, tries = time.monotonic() + _SECONDS, 0
     while True:
         with open_file(book) as file:
+            if not (like is None or os.path.sameopenfile(file.fileno(), like)):
+                # another one was put there in this moment
+                raise cannot_open(book, Why.REPLACED)
             if _is_copied(book, file, copied):
                 return
+            why = Why.IN_USE if is_at_path(book, file) else Why.REPLACED
         for path in (copied, Path(f"{copied}-wal")):
             path.unlink(missing_ok=True)
         tries += 1
         if time.monotonic() > until and tries >= _TRIES:
-            raise cannot_open(book, Why.IN_USE)
+            raise cannot_open(book, why)
 
 
 def _is_copied(book: BookFile, file: BinaryIO, copied: Path) -> bool:
-    """Copies a file and its log, and says whether the log wasn't emptied nor the file replaced."""
+    """Copies a file and its log, and says whether that wasn't emptied and none of them was replaced."""
     log = book.log
     if no_log := why_no_log(log):
         raise cannot_open(book, no_log)
@@ -102,7 +107,9 @@ def _is_copied(book: BookFile, file: BinaryIO, copied: Path) -> bool:
     with open_made(copied, copy_held(file, log, copied)) as made:
         give_list(made.fileno(), file.fileno())
         give_access(made.fileno(), file.fileno())
-    return _state(book, file) == before and is_at_path(book, file)
+    # no two logs have one header
+    is_its_log = _header(f"{copied}-wal") == before[-1]
+    return is_its_log and _state(book, file) == before and is_at_path(book, file)
 
 
 def _state(book: BookFile, file: BinaryIO) -> tuple[int, int, int, bytes]:

@@ -183,11 +183,12 @@ def test_places_in_struck_paragraphs_are_not_counted_as_changed(moons: Path) -> 
         "“mooon” would be changed in 3 places of 2 paragraphs, unless the book refuses a"
         " place. 1 place of 1 struck paragraph would be refused. Nothing was changed.\n",
     )
-    ran = changed(moons, "o", "u", "--in", "3-", "--dry-run")
-    assert ran.said == (
-        "“o” would be changed nowhere. 4 places of 1 struck paragraph would be refused."
-        " Nothing was changed.\n"
-    )
+    for new, how in (("u", "changed"), ("", "taken out")):
+        ran = changed(moons, "o", new, "--in", "3-", "--dry-run")
+        assert ran.said == (
+            f"“o” would be {how} nowhere. 4 places of 1 struck paragraph would be refused."
+            " Nothing was changed.\n"
+        )
 
 
 def test_places_where_the_new_words_stand_already_are_not_counted(moons: Path) -> None:

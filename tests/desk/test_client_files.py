@@ -2018,6 +2018,53 @@ def test_a_link_put_in_place_of_a_file_leads_a_new_book_to_no_other(
     assert (names(tmp_path), other.read_bytes()) == ({"place", "other"}, b"")
 
 
+@pytest.mark.parametrize("times", [1, 9])
+def test_no_program_is_said_to_have_a_book_open_that_another_replaces_meanwhile(
+    tmp_path: Path, monkeypatch: pytest.MonkeyPatch, times: int
+) -> None:
+    path, others = tmp_path / "book", [tmp_path / f"other{n}" for n in range(times)]
+    for each in (path, *others):
+        each.write_bytes(opening.MAGIC + bytes(84))
+
+    def taken(file: BinaryIO) -> bool:
+        if others:
+            others.pop().replace(path)
+        return opening.take_shared(file)
+
+    def look() -> int:
+        with held.held(BookFile(str(path))) as file:
+            return os.fstat(file.fileno()).st_size
+
+    monkeypatch.setattr(held, "take_shared", taken)
+    if times == 1:
+        assert opening.waited(look, 0) == 100
+        return
+    with pytest.raises(CannotOpen) as caught:
+        opening.waited(look, 0)
+    assert caught.value.sentence == (
+        f"“{path}” was replaced by another file just as it was opened, or was away for a moment."
+        " Nothing was changed. See which program does that, and try again."
+    )
+
+
+def test_a_file_that_is_away_for_a_moment_is_not_said_to_be_none(
+    tmp_path: Path, monkeypatch: pytest.MonkeyPatch
+) -> None:
+    path = tmp_path / "book"
+    path.touch()
+    aside = path.rename(tmp_path / "aside")
+    slept = time.sleep
+
+    def moved(seconds: float) -> None:
+        slept(seconds)
+        if aside.exists():
+            aside.rename(path)
+
+    assert opening.why(BookFile(str(path))) is Why.MISSING
+    monkeypatch.setattr(time, "sleep", moved)
+    assert opening.why(BookFile(str(path))) is Why.REPLACED
+
+
 def test_a_link_put_in_place_of_an_empty_book_has_its_table_put_into_no_other(
     empty_book: Path, tmp_path: Path, monkeypatch: pytest.MonkeyPatch
 ) -> None:

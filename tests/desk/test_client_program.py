@@ -284,3 +284,28 @@ def test_a_table_that_cannot_be_read_says_why(tmp_path: Path) -> None:
     assert caught.value.sentence == (
         f"“{large}” is too large for a table, which has at most 134,217,728 bytes."
     )
+
+
+@pytest.mark.parametrize("is_session", [False, True])
+def test_a_program_that_stops_while_a_book_is_judged_isnt_waited_for_to_no_end(
+    book: Path, tmp_path: Path, is_session: bool
+) -> None:
+    copy, stopping = tmp_path / "copy", tmp_path / "stopping"
+    with Session(book) as session:
+        session.add_paragraph("end", "en", "The moon")
+        for ending in ("", "-wal"):
+            shutil.copyfile(f"{book}{ending}", f"{copy}{ending}")
+    # at the first copy that is tried
+    found = braildesk.find()
+    stopping.write_text(f"#!/bin/sh\nkill -STOP $$\nexec '{found}' \"$@\"\n")
+    stopping.chmod(0o755)
+
+    def stop() -> None:
+        raise KeyboardInterrupt
+
+    with pytest.raises(KeyboardInterrupt):
+        if is_session:
+            Session(copy, stopping, while_waiting=stop)
+        else:
+            braildesk.check(copy, stopping, while_waiting=stop)
+    assert braildesk.check(copy) == 2

@@ -164,7 +164,8 @@ VALUES: dict[str, object] = {
     "begins": True,
 }
 OTHER_METHODS = {
-    *("ask", "reply", "each", "close", "fileno", "tables", "take_over", "guard")
+    *("ask", "reply", "each", "close", "fileno", "tables", "take_over", "guard"),
+    "hasten",
 }
 
 

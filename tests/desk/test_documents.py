@@ -372,6 +372,28 @@ def test_a_line_that_ends_by_hand_in_odt_has_none_of_its_words_missing_for_other
     assert found.missing == (Missing("the moon", "", ""),)
 
 
+def test_an_odt_that_pandoc_refuses_is_read_by_libreoffice_if_that_is_there(
+    tmp_path: Path, monkeypatch: pytest.MonkeyPatch
+) -> None:
+    made = docx(tmp_path / "made.docx", paragraph(run("The moon is far.")))
+
+    def refusing(data: bytes, kind: ManuscriptKind, *others: Any) -> Any:
+        if kind is ManuscriptKind.ODT:
+            raise NotConverted("pandoc", "Couldn't parse odt file.")
+        return tree(data, kind, *others)
+
+    monkeypatch.setattr(pandoc, "tree", refusing)
+    monkeypatch.setattr(pandoc, "as_docx", lambda *_: made.read_bytes())
+    path = odt(tmp_path / "moon.odt", "<text:p>The moon is far.</text:p>")
+    monkeypatch.setattr(pandoc, "office", lambda: "soffice")
+    found = read_manuscript(path)
+    assert (found.kind, found.texts) == (ManuscriptKind.ODT, ["The moon is far."])
+    assert found.missing == ()
+    monkeypatch.setattr(pandoc, "office", lambda: None)
+    with pytest.raises(NotConverted, match="Couldn't parse"):
+        read_manuscript(path)
+
+
 def test_titles_of_tables_stand_where_a_text_in_odt_has_them(tmp_path: Path) -> None:
     cell = "<table:table-cell><text:p>{}</text:p></table:table-cell>"
     rows = f"<table:table-row>{cell.format('a')}{cell.format('b')}</table:table-row>"
@@ -998,6 +1020,71 @@ def test_a_large_first_letter_belongs_to_its_paragraph(tmp_path: Path) -> None:
     body = drop.format(run("T")) + paragraph(run("wice a day.")) + paragraph(run("End"))
     found = read_manuscript(docx(tmp_path / "drop.docx", body))
     assert (found.texts, found.missing) == (["Twice a day.", "End"], ())
+
+
+@pytest.mark.parametrize(
+    "initial, rest, wanted",
+    [
+        ("I", " am here.", "I am here."),
+        ("Once", " upon a time.", "Once upon a time."),
+        ("A ", "man.", "A man."),
+        ("“T", "he moon.", "“The moon."),
+    ],
+)
+def test_a_drop_cap_is_one_word_with_what_follows_unless_a_blank_parts_them(
+    tmp_path: Path, initial: str, rest: str, wanted: str
+) -> None:
+    frame = '<w:framePr w:dropCap="drop" w:lines="3"/>'
+    body = paragraph(run(initial), properties=frame) + paragraph(run(rest))
+    found = read_manuscript(docx(tmp_path / "a.docx", body + paragraph(run("End"))))
+    assert (found.texts, found.missing) == ([wanted, "End"], ())
+    assert found.losses == ()
+
+
+@pytest.mark.parametrize(
+    "initial, rest, words",
+    [("Once", "upon a time.", ["Once"]), ("“I", "t rose.", []), ("“No”", "no.", [])],
+)
+def test_a_drop_cap_of_several_letters_without_a_blank_is_said_to_be_uncertain(
+    tmp_path: Path, initial: str, rest: str, words: list[str]
+) -> None:
+    frame = '<w:framePr w:dropCap="margin" w:lines="2"/>'
+    body = paragraph(run(initial), properties=frame) + paragraph(run(rest))
+    found = read_manuscript(docx(tmp_path / "a.docx", body))
+    assert (found.texts, found.missing) == ([f"{initial}{rest}"], ())
+    assert lost(found, LossKind.INITIAL) == words
+
+
+@pytest.mark.parametrize(
+    "look, kind",
+    [
+        ("<w:b/>", LossKind.EMPHASIS),
+        ("<w:vanish/>", LossKind.HIDDEN),
+        ('<w:rStyle w:val="Big"/>', None),
+    ],
+)
+def test_of_a_drop_cap_that_is_not_plain_it_is_said_that_it_may_be_a_word_of_its_own(
+    tmp_path: Path, look: str, kind: LossKind | None
+) -> None:
+    frame = '<w:framePr w:dropCap="drop" w:lines="3"/>'
+    body = paragraph(run("Egy ", look), properties=frame) + paragraph(run("nap."))
+    found = read_manuscript(docx(tmp_path / "a.docx", body))
+    assert found.texts == ["Egynap."]
+    assert lost(found, LossKind.INITIAL) == ["Egy"]
+    assert kind is None or len(lost(found, kind)) == 1
+
+
+def test_a_drop_cap_that_is_a_word_stands_before_all_of_what_follows(
+    tmp_path: Path,
+) -> None:
+    frame = '<w:framePr w:dropCap="drop" w:lines="3"/>'
+    link = f'<w:hyperlink w:anchor="a">{run(" am")}</w:hyperlink>'
+    gone = deleted(" was")
+    for first, text in ((link, "I am here."), (gone, "I here.")):
+        body = paragraph(run("I"), properties=frame)
+        body += paragraph(first, run(" here."))
+        found = read_manuscript(docx(tmp_path / "a.docx", body))
+        assert (found.texts, found.missing) == ([text], ())
 
 
 def test_tags_of_a_page_are_no_print_that_is_lost(tmp_path: Path) -> None:

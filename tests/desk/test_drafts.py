@@ -549,6 +549,30 @@ def test_that_what_is_typed_is_not_kept_is_said_where_another_text_waits_in_its_
     assert (Drafts(moon).waiting(), Drafts(moon).later()) == (NOTE, (first,))
 
 
+def test_a_text_that_is_typed_further_is_given_up_no_more_also_where_it_can_not_be_kept_yet(
+    moon: Path, store: Path, monkeypatch: pytest.MonkeyPatch
+) -> None:
+    other = Draft(Aim.AFTER, 1, "en", "", "It rose.")
+    unsent, its = Unsent(Drafts(moon)), Drafts(moon)
+    for each in (other, NOTE):
+        unsent.put_by(each)
+
+    def full(folder: OwnFolder, name: str, data: bytes) -> None:
+        raise OSError(errno.ENOSPC, os.strerror(errno.ENOSPC))
+
+    with monkeypatch.context() as patched:
+        patched.setattr(OwnFolder, "write", full)
+        with pytest.raises(NotKept):
+            unsent.take_up(NOTE, NOTE)
+        # where it is kept until it is kept elsewhere
+        assert (unsent.texts(), its.given_up()) == ((other,), (NOTE, other))
+        further = replace(NOTE, text="which?\nwhy? So.")
+        unsent.put_by(further)
+        assert unsent.texts() == (further, other)
+    unsent.keep(None)
+    assert unsent.texts() == its.given_up() == (further, other)
+
+
 def test_a_text_that_was_given_up_and_can_not_be_kept_waits_on_before_one_left_for_later(
     moon: Path, store: Path
 ) -> None:
@@ -1209,3 +1233,23 @@ def test_how_much_was_taken_back_is_said_of_one_and_of_many(
     assert taken_back_in_part(drafts, 4 + done) == (
         f"Taking back 3 changes was cut short: {said} taken back."
     )
+
+
+def test_what_another_session_left_for_later_stays_among_what_waits(
+    moon: Path, store: Path
+) -> None:
+    drafts = Drafts(moon)
+    texts = [Draft(Aim.AFTER, 1, "en", "", f"Text {n}.") for n in range(3)]
+    here, other = Unsent(drafts), Unsent(drafts)
+    for unsent in (here, other):
+        unsent.read()
+    other.keep(texts[0])
+    other.put_off()
+    other.keep(texts[1])
+    found = here.others()
+    assert found is not None and (found[0].text, found[1]) == ("Text 1.", "")
+    here.keep(texts[2])
+    here.keep(None)
+    assert [each.text for each in drafts.given_up()] == ["Text 1."]
+    waiting = drafts.waiting()
+    assert waiting is not None and waiting.text == "Text 0."

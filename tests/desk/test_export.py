@@ -4,6 +4,7 @@ import os
 import resource
 import shutil
 import stat
+import tracemalloc
 from io import BytesIO, StringIO
 from pathlib import Path
 from typing import Any
@@ -17,10 +18,15 @@ import braildesk
 from braildesk.desk import export
 from braildesk.desk.layout import PageSize
 from braildesk.desk.ranges import PageRange
-from braildesk.desk.whole_file import write_whole
+from braildesk.desk.whole_file import Access, write_whole
 
 from scribe.words.console import Console
-from scribe.words.export import export_in_words, not_written, numbers_in_words
+from scribe.words.export import (
+    export_in_words,
+    no_folder,
+    not_written,
+    numbers_in_words,
+)
 from scribe.words.status import Status, Stop, in_sentences
 from strangers import NEEDS_ROOT, as_stranger, in_time, lead_to
 from tool import Ran, scribe
@@ -476,10 +482,13 @@ def test_no_volume_comes_into_a_folder_that_a_stranger_puts_in_the_place_of_that
 
 
 @NEEDS_ROOT
-def test_a_link_that_a_stranger_puts_in_the_place_of_a_new_folder_leads_an_export_nowhere(
-    moon: Path, monkeypatch: pytest.MonkeyPatch
+@pytest.mark.parametrize("is_there", [True, False])
+def test_a_link_that_a_stranger_puts_in_the_place_of_the_folder_leads_an_export_nowhere(
+    moon: Path, monkeypatch: pytest.MonkeyPatch, is_there: bool
 ) -> None:
     out, private = shared_and_private(moon)
+    if is_there:
+        out.mkdir()
     made = export.Export(export.Job(moon, out, PageSize(), 0))
     make = made.make_folder
 
@@ -492,6 +501,52 @@ def test_a_link_that_a_stranger_puts_in_the_place_of_a_new_folder_leads_an_expor
     with pytest.raises(export.NoFolder):
         list(made.run())
     assert files(private) == ["moon-2.brf"]
+
+
+@NEEDS_ROOT
+@pytest.mark.parametrize("way", ["the folder", "in its path", "a link of one's own"])
+def test_no_pages_are_written_through_a_link_of_another_user(
+    tmp_path: Path, way: str
+) -> None:
+    link, private = shared_and_private(tmp_path / "moon")
+    assert as_stranger(lambda: link.symlink_to(private)) == ""
+    own, direct = tmp_path / "own", tmp_path / "direct"
+    own.symlink_to(link)
+    direct.symlink_to(private)
+    path = {"the folder": link, "in its path": link / "out"}.get(way, own)
+    made = export.Export(export.Job(tmp_path / "moon", path, PageSize(), 0))
+    with pytest.raises(export.NoFolder) as caught, made.made_folder():
+        made.write(1, made.job.file(1), b"", Access())
+    assert no_folder(caught.value) == (
+        f"The link “{link}” is another user's, and no pages are written through it. Take the path to"
+        " which it leads, if that is what you mean, or another one. Nothing was exported."
+    )
+    assert files(private) == ["moon-2.brf"]
+    made = export.Export(export.Job(tmp_path / "moon", direct, PageSize(), 0))
+    with made.made_folder():
+        made.write(1, made.job.file(1), b"", Access())
+    assert files(private) == ["moon-1.brf", "moon-2.brf"]
+
+
+@NEEDS_ROOT
+def test_no_folder_is_removed_through_a_link_that_a_stranger_puts_in_the_path(
+    moon: Path, monkeypatch: pytest.MonkeyPatch
+) -> None:
+    shared, private = shared_and_private(moon)
+    shared.mkdir()
+    (private / "pages").mkdir()
+    made = export.Export(export.Job(moon, shared / "pages", PageSize(), 0))
+    make = made.make_folder
+
+    def swapped() -> bool:
+        is_new = make()
+        assert as_stranger(lambda: put_link(shared, private)) == ""
+        return is_new
+
+    monkeypatch.setattr(made, "make_folder", swapped)
+    with pytest.raises(export.NoFolder):
+        list(made.run())
+    assert (private / "pages").is_dir()
 
 
 def shared_and_private(moon: Path) -> tuple[Path, Path]:
@@ -752,3 +807,15 @@ def test_pages_are_listed_as_a_person_does(
     numbers: tuple[int, ...], words: str
 ) -> None:
     assert numbers_in_words(numbers) == words
+
+
+def test_an_older_file_of_very_many_pages_takes_little_memory() -> None:
+    older = b"a\f" * 2**20
+    tracemalloc.start()
+    try:
+        found = export.Differences.of(older, b"a\fb\f")
+        _, most = tracemalloc.get_traced_memory()
+    finally:
+        tracemalloc.stop()
+    assert found == export.Differences((2,), 2, 2**20)
+    assert most < 2 * len(older)

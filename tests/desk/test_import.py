@@ -12,7 +12,12 @@ import pytest
 
 import braildesk
 from braildesk import Session
+from braildesk.desk import manuscripts
+from braildesk.desk.import_text import CantRead, bytes_of
+from braildesk.workshop import own_path
 
+from scribe.words.import_text import not_imported
+from strangers import NEEDS_ROOT, as_stranger, lead_to
 from tool import Ran, environment, scribe
 
 TEXT = "The moon\nis far away.\n\nTides\n\n\tTwice a day.\n"
@@ -252,6 +257,60 @@ def test_a_file_that_is_not_there_is_refused(book: Path) -> None:
     assert scribe("import", book, "none.txt", folder=book.parent) == Ran(
         2, "", "none.txt can't be read: No such file or directory. Nothing was typed.\n"
     )
+
+
+@NEEDS_ROOT
+@pytest.mark.parametrize("way", ["the text", "its folder", "a link of one's own"])
+def test_no_text_is_read_through_a_link_of_another_user(
+    tmp_path: Path, way: str
+) -> None:
+    private, link = shared_and_private(tmp_path)
+    own, direct = tmp_path / "own", tmp_path / "direct"
+    to = private.parent if way == "its folder" else private
+    assert as_stranger(lambda: link.symlink_to(to)) == ""
+    own.symlink_to(link)
+    direct.symlink_to(private)
+    path = {"the text": link, "its folder": link / private.name}.get(way, own)
+    with pytest.raises(CantRead) as caught:
+        bytes_of(path)
+    assert not_imported(caught.value).sentence == (
+        f"The link “{link}” is another user's, and no text is read through it. Take the path to which"
+        " it leads, if that is what you mean, or another one. Nothing was typed."
+    )
+    assert bytes_of(private) == bytes_of(direct) == b"Mine\n"
+
+
+@NEEDS_ROOT
+def test_no_link_is_followed_that_a_stranger_puts_in_the_place_of_a_text(
+    tmp_path: Path, monkeypatch: pytest.MonkeyPatch
+) -> None:
+    private, text = shared_and_private(tmp_path)
+
+    def swap() -> None:
+        text.unlink()
+        text.symlink_to(private)
+
+    def swapped(path: str) -> str:
+        found = own_path(path)
+        assert as_stranger(swap) == ""
+        return found
+
+    assert as_stranger(lambda: text.write_text("Theirs\n")) == ""
+    assert bytes_of(text) == b"Theirs\n"
+    monkeypatch.setattr(manuscripts, "own_path", swapped)
+    with pytest.raises(CantRead):
+        bytes_of(text)
+
+
+def shared_and_private(folder: Path) -> tuple[Path, Path]:
+    """A text of one's own, and the path of one in a folder where a stranger may write."""
+    shared, private = folder / "shared", folder / "private"
+    for each in (shared, private):
+        each.mkdir()
+    shared.chmod(0o777)
+    lead_to(shared)
+    (private / "text.txt").write_text("Mine\n")
+    return private / "text.txt", shared / "text.txt"
 
 
 @pytest.fixture

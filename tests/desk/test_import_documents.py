@@ -117,6 +117,12 @@ def test_headings_and_volumes_come_with_the_paragraphs(book: Path) -> None:
     )
 
 
+def test_from_past_the_last_paragraph_of_a_document_is_refused(book: Path) -> None:
+    assert put(book, "--from", "9") == Ran(
+        2, "", "The document has 8 paragraphs, and no paragraph 9. Nothing was typed.\n"
+    )
+
+
 def test_volumes_begin_at_the_level_that_is_said(book: Path) -> None:
     assert put(book, "--volumes", "2", "--notes", "end").status == 0
     assert [flags for _, flags in parts(book)] == ["h", "h", "", "", "", "hv", "", "h"]
@@ -477,6 +483,15 @@ def test_places_of_a_text_are_those_of_its_file_after_characters_were_replaced()
         *(Position(4, column) for column in (1, 1)),
     ]
     assert [each.count for each in replacer.counts] == [3, 1]
+
+
+def test_characters_for_which_a_book_has_others_are_replaced_as_those() -> None:
+    # the signs of ohm and kelvin, of which print has the letters
+    line = TextLine("10 \u2126, 3 \u212a, é e\u0301", Position(1, 1))
+    replacer = Replacer((("\u03a9", "Ohm"), ("K", "Kelvin")))
+    (made,) = replacer.passages([Passage((line,))])
+    assert made.text == "10 Ohm, 3 Kelvin, é é"
+    assert [each.count for each in replacer.counts] == [1, 1]
 
 
 @pytest.mark.parametrize(

@@ -8,6 +8,7 @@ import signal
 import subprocess
 import sys
 from collections.abc import Callable, Iterator
+from dataclasses import replace
 from io import BytesIO, StringIO
 from pathlib import Path
 from typing import Any
@@ -15,8 +16,10 @@ from typing import Any
 import pytest
 
 from braildesk import After, Session
+from braildesk.desk.documents.kinds import ManuscriptKind
+from braildesk.desk.documents.options import ReadingOptions
 from braildesk.desk.drafts import Drafts
-from braildesk.desk.import_note import ImportNote
+from braildesk.desk.import_note import How, ImportNote
 from braildesk.desk.readings import answers
 from braildesk.protocol.requests import Command
 
@@ -24,6 +27,7 @@ from scribe.cli import run_words
 from scribe.words.console import Console
 from sitting import Sat, Sit
 from stand_in import KEPT, KILL_BOTH, KILL_PROGRAM, READ, REPLY
+from strangers import NEEDS_ROOT, as_stranger, lead_to
 from terminal import standing_in
 from test_import import TEXT, prints, version
 from tool import Ran, environment, scribe
@@ -126,6 +130,25 @@ def test_show_says_where_an_import_was_cut_short_and_how_it_goes_on(
     )
     assert prints(killed) == ["front", *LINES, "end"]
     assert ran("show", killed, "--paragraphs", "1").said == ""
+
+
+@NEEDS_ROOT
+@pytest.mark.parametrize("to", ["the text", "/dev/null"])
+def test_a_text_that_was_cut_short_is_read_again_through_no_link_of_another_user(
+    killed: Path, to: str
+) -> None:
+    text, kept = killed.parent / "text.txt", killed.parent / "kept.txt"
+    text.rename(kept)
+    killed.parent.chmod(0o777)
+    lead_to(killed.parent)
+    target = kept if to == "the text" else Path(to)
+    assert as_stranger(lambda: text.symlink_to(target)) == ""
+    found = ran("show", killed, "--paragraphs", "1", "--print")
+    assert found.status == 0
+    assert found.said.startswith(
+        f"The import of text.txt was cut short, and {text} can't be read: the link “{text}” is another"
+        " user's. So how much of it is in the book can't be seen: "
+    )
 
 
 def test_an_import_that_another_scribe_is_at_is_neither_called_cut_short_nor_forgotten(
@@ -415,9 +438,47 @@ def test_the_desk_says_that_nothing_shows_where_an_import_stopped(
     sat = sit(killed)
     assert sat.state.question is None
     assert "text.txt was changed since. So how much of" in sat.state.message
-    assert sat.state.message.endswith(
+    assert sat.state.message.endswith(" i and the name of that file ask what is done.")
+
+
+def test_the_desk_says_of_a_text_that_is_gone_how_the_rest_of_it_is_left_out(
+    killed: Path, sit: Sit
+) -> None:
+    (killed.parent / "text.txt").unlink()
+    assert sit(killed).state.message.endswith(
         " scribe import with --leave leaves the rest out."
     )
+
+
+@pytest.mark.parametrize(
+    "key, typed, said",
+    [
+        ("y", ["Other"], "kept: 1 paragraph typed, number 8, by the table en"),
+        ("n", [], "The rest of text.txt is left out. What is in the book stays there."),
+    ],
+)
+def test_the_desk_asks_what_is_done_about_a_text_that_was_changed_since(
+    killed: Path, sit: Sit, key: str, typed: list[str], said: str
+) -> None:
+    (text := killed.parent / "text.txt").write_text("Other")
+    sat = sit(killed)
+    sat.press("i")
+    sat.write(str(text))
+    sat.press("enter")
+    sat.state = sat.desk.away(sat.state, lambda line: None)
+    assert sat.state.question is not None
+    assert sat.state.question.sentence == (
+        f"The import of text.txt was cut short, and {text} was changed since. So how much of it is in"
+        " the book can't be seen: the book had 2 paragraphs before, and the text 12. Shall all of"
+        " the text be typed, also what may be there already?"
+    )
+    sat.press(key)
+    if key == "y":
+        sat.state = sat.desk.away(sat.state, lambda line: None)
+    assert said in (sat.state.message, sat.state.kept)
+    sat = sit_again(sat, sit)
+    assert "cut short" not in sat.state.message and sat.state.question is None
+    assert prints_of(sat) == ["front", *typed, *LINES[:5], "end"]
 
 
 def test_a_text_that_was_changed_since_is_not_imported_before_that_is_decided(
@@ -432,6 +493,18 @@ def test_a_text_that_was_changed_since_is_not_imported_before_that_is_decided(
         )
     assert again(killed, "--again").status == 0
     assert prints(killed)[-1] == "Other"
+
+
+def test_a_document_that_was_changed_since_may_go_on_at_one_of_its_paragraphs(
+    killed: Path,
+) -> None:
+    how = How(ReadingOptions(ManuscriptKind.DOCX))
+    Drafts(killed).begin_import(replace(begun(killed), how=how))
+    (killed.parent / "text.txt").write_text("Other")
+    assert again(killed).said.endswith(
+        "\n--from goes on at a paragraph of the document, --again types all of it, and --leave"
+        " leaves the rest out. Nothing was typed.\n"
+    )
 
 
 def test_an_import_that_goes_on_and_is_cut_short_again_goes_on_once_more(

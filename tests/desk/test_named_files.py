@@ -95,7 +95,8 @@ def test_a_text_that_is_written_while_it_is_read_is_not_imported(
     text = book.with_name("text.txt")
     text.write_text("The moon\n")
     with monkeypatch.context() as patched:
-        patched.setattr("braildesk.named_files.open_file", partial(Meanwhile, does))
+        opened = "braildesk.desk.manuscripts.open_file"
+        patched.setattr(opened, lambda *_: Meanwhile(does, text))
         console = Console(io.BytesIO(), shown := io.StringIO(), said := io.StringIO())
         assert run_words(["import", str(book), str(text)], console) == 2
     assert (shown.getvalue(), said.getvalue()) == (

@@ -27,7 +27,7 @@ from scribe.cli import run_words
 from scribe.prompt.trial import Trial
 from scribe.words.console import Console
 from scribe.words.export import export_in_words
-from scribe.words.status import Stop, in_sentences
+from scribe.words.status import Stop, in_sentences, of_system
 from tool import ROOT, Ran, environment
 from words import LOOKING, PATHS, WORDS
 
@@ -294,6 +294,20 @@ def test_a_folder_that_is_gone_ends_each_command_in_a_sentence(
         check_said(ran([name, *words]), name)
     # the book is found, and the folder for its pages isn't
     check_said(ran(["export", str(sample / "moon.braildesk"), "pages"]), "export")
+
+
+def test_of_a_book_that_may_be_gone_with_the_folder_of_scribe_it_is_said_so(
+    tmp_path: Path, monkeypatch: pytest.MonkeyPatch
+) -> None:
+    gone = tmp_path / "gone"
+    gone.mkdir()
+    monkeypatch.chdir(gone)
+    gone.rmdir()
+    failure = FileNotFoundError(errno.ENOENT, os.strerror(errno.ENOENT))
+    its, go = "The folder in which scribe was started is gone.", "Go to another folder,"
+    kept = "What was reported as kept is in the book, unless that was in it."
+    assert of_system(failure) == f"{its} {kept} {go} and name files from there."
+    assert of_system(failure, "") == f"{its} {go} and name files from there."
 
 
 #: Runs commands, and writes what came of each.

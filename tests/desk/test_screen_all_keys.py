@@ -130,6 +130,7 @@ V
 v
 '1' enter
 escape
+a-y
 """.strip().split(
     "\n"
 )

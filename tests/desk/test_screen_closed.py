@@ -38,8 +38,9 @@ def check_has_ended(terminal: Terminal, way: str, waits: str = "") -> None:
     if way == HUNG_UP:
         assert (terminal.left(), terminal.said) == (3, "")
     else:
-        # by the first signal, if there are two
-        assert terminal.ended() == -signal.Signals[way.split()[0]]
+        # by either of two signals, since the system may hand the later one to another thread of scribe
+        # that is sooner, and to a person it is the same which of two that come at once ends it
+        assert -terminal.ended() in [signal.Signals[name] for name in way.split()]
         assert terminal.said.replace("\n", " ") == waits
     assert b"Traceback" not in terminal.written
     assert b"Unhandled" not in terminal.written
@@ -129,18 +130,14 @@ def test_what_was_cut_out_of_a_print_that_is_kept_is_put_in_elsewhere_after_the_
     terminal.wait("kept: correction 1 of paragraph 2")
     close(terminal, way)
     check_has_ended(terminal, way)
-    again = at(moon)
-    again.wait(
-        "“Tides” was cut out of what was typed. Ctrl-Y puts it in while you type."
-    )
-    again.keys("o", "c-y")
-    again.wait("Tides")
-    again.keys("escape", "q")
-    assert again.ended() == 0
-    # who ends it by themselves is reminded of nothing
-    last = at(moon)
-    last.wait("? shows the keys.")
-    assert "cut out" not in " ".join(last.lines)
+    # as often as it is wanted, until something else is cut
+    for _ in range(2):
+        again = at(moon)
+        again.wait("? shows the keys.")
+        again.keys("o", "c-y")
+        again.wait("Tides")
+        again.keys("escape", "q")
+        assert again.ended() == 0
 
 
 def test_what_was_cut_is_put_in_also_after_an_end_by_a_key(
@@ -155,13 +152,31 @@ def test_what_was_cut_is_put_in_also_after_an_end_by_a_key(
     terminal.keys("escape", "q")
     assert terminal.ended() == 0
     again = at(moon)
-    again.wait(
-        "“rose.” was cut out of what was typed. Ctrl-Y puts it in while you type."
-    )
+    again.wait("? shows the keys.")
     again.keys("o", "c-y")
     again.wait("rose.")
     again.keys("escape", "q")
     assert again.ended() == 0
+
+
+def test_what_was_cut_is_kept_also_where_a_text_is_asked_about_first(
+    moon: Path, at: Open
+) -> None:
+    terminal = at(moon)
+    terminal.wait("? shows the keys.")
+    terminal.keys("o", "It rose.")
+    terminal.wait("It rose.")
+    terminal.keys("c-w", "Yes")
+    terminal.wait("It Yes")
+    terminal.hang_up()
+    check_has_ended(terminal, HUNG_UP)
+    again = at(moon)
+    again.wait("further? y is yes, n is no.")
+    again.answer("n")
+    again.wait("Given up")
+    again.keys("q")
+    assert again.ended() == 0
+    assert Drafts(moon).cut() == "rose."
 
 
 def test_lines_that_were_pasted_and_not_answered_for_are_asked_about_again(
@@ -345,6 +360,39 @@ def test_a_text_that_can_not_be_kept_at_the_end_is_said(moon: Path, at: Open) ->
     said = terminal.said.replace("\n", " ")
     assert said.startswith("What is typed can't be kept in /proc/nowhere/braildesk: ")
     assert said.endswith(" This was typed: Oh, The moon is far away. ")
+
+
+@pytest.mark.parametrize("is_by_key", [True, False])
+def test_what_was_cut_and_can_not_be_kept_at_the_end_is_said(
+    moon: Path, at: Open, is_by_key: bool
+) -> None:
+    terminal = at(moon, XDG_STATE_HOME="/proc/nowhere")
+    terminal.wait("? shows the keys.")
+    terminal.keys("down", "enter", "end", "c-w")
+    terminal.wait("“Tides” was cut. Ctrl-Y puts it in.")
+    terminal.keys("enter")
+    terminal.wait("kept: correction 1 of paragraph 2")
+    if is_by_key:
+        terminal.keys("q")
+        assert terminal.ended() == 0
+    else:
+        terminal.send_signal(signal.SIGTERM)
+        assert terminal.ended() == -signal.SIGTERM
+    said = terminal.said.replace("\n", " ")
+    assert "What is cut out of it can't be kept in /proc/nowhere/braildesk: " in said
+    assert said.endswith(" This was cut: Tides ")
+
+
+def test_what_was_cut_is_said_after_what_is_typed_where_neither_can_be_kept(
+    moon: Path, at: Open
+) -> None:
+    terminal = at(moon, XDG_STATE_HOME="/proc/nowhere")
+    terminal.wait("? shows the keys.")
+    terminal.keys("down", "enter", "end", "c-w")
+    terminal.wait("“Tides” was cut. Ctrl-Y puts it in.")
+    terminal.send_signal(signal.SIGTERM)
+    assert terminal.ended() == -signal.SIGTERM
+    assert terminal.said.endswith("This was typed:\nThe \nThis was cut:\nTides\n")
 
 
 def test_pasted_lines_that_can_not_be_kept_at_the_end_are_said(

@@ -333,7 +333,7 @@ def test_words_that_are_otherwise_in_the_book_are_offered_and_gone_to(
     assert (sat.state.chosen, sat.state.place) == place
     assert sat.state.message == ""
     sat.press("*")
-    assert sat.state.message == f"“{sought}” is nowhere else in the book."
+    assert sat.state.message == f"“{sought}” in any form is nowhere else in the book."
     sat.press("/", *sought, "enter")
     assert "isn't in the book as typed" in sat.state.message
 

@@ -86,6 +86,16 @@ def test_lines_are_typed_further_at_their_end_wherever_the_cursor_was(
     assert typed and typed.text == "It rose. It shone.!"
 
 
+def test_what_was_typed_at_a_question_or_a_report_is_said_truly_of_both_after_a_kill(
+    moon: Path, sit: Sit
+) -> None:
+    aside = Draft(Aim.AFTER, 1, "en", "", "It set.")
+    Drafts(moon).keep_unread(Unread("", aside, is_at_offer=True))
+    assert sit(moon).state.message == (
+        "What was typed where no text was asked for is set aside: “It set.”. U brings it back."
+    )
+
+
 @NEEDS_ROOT
 def test_of_a_folder_of_another_user_it_is_said_once_that_it_can_not_be_read(
     moon: Path, sit: Sit, state_home: Path
@@ -156,19 +166,28 @@ def test_what_was_given_up_comes_back_when_the_book_is_opened_again(
     sat.desk.close()
     again = sit(moon)
     assert again.state.question is None
-    sentences = []
+    sentences, others = [], []
     for _ in range(4):
         again.press("U")
         sentences.append(asked(again).split(" Shall")[0])
+        others.append(asked(again).split("n is no. ")[1])
     assert sentences == [
         "1 of 3. A text of a new paragraph was set aside: “It rose.”.",
         "2 of 3. A note for a mark in paragraph 2 was set aside: “who?”.",
         "3 of 3. A text of paragraph 2 was set aside: “Oh, The Tides”.",
         "1 of 3. A text of a new paragraph was set aside: “It rose.”.",
     ]
-    assert asked(again).endswith("n is no. U asks about the one before.")
+    before, newest = (
+        "U asks about the one before.",
+        "U asks about the newest one again.",
+    )
+    assert others == [before, before, newest, before]
     again.press("n")
     assert again.state.message == "It stays set aside. U asks about it again."
+    again.press("U", "U", "n")
+    assert again.state.message == (
+        "It stays set aside. U, pressed 2 times, asks about it again."
+    )
     again.press("U", "U", "y", "enter")
     assert again.state.kept == "kept: mark 2"
     # what the book has isn't asked about any more
@@ -1007,10 +1026,21 @@ def test_what_was_cut_comes_back_by_ctrl_y_after_scribe_was_killed(
     sat.desk.close()
     # as after a kill: nothing of what the first one had is left but its files
     again = sit(moon)
-    assert again.state.message == (
-        "“Moonrise” was cut out of what was typed. Ctrl-Y puts it in while you type. ? shows"
-        " the keys."
-    )
+    assert again.state.message == "? shows the keys."
+    again.press("o", "c-y")
+    assert again.state.typed and again.state.typed.text == "Moonrise"
+
+
+def test_what_was_cut_out_of_a_print_is_kept_also_if_words_were_cut_out_of_an_answer(
+    moon: Path, sit: Sit
+) -> None:
+    sat = sit(moon)
+    sat.press("o", *"Moonrise", "c-u", "escape", "/", *"far", "c-u")
+    sat.state = sat.desk.save_draft(sat.state)
+    sat.press("c-y", "enter")
+    assert sat.state.sought == "far"
+    sat.desk.close()
+    again = sit(moon)
     again.press("o", "c-y")
     assert again.state.typed and again.state.typed.text == "Moonrise"
 
@@ -1034,7 +1064,7 @@ def test_what_was_cut_out_of_a_text_that_waits_comes_back_by_ctrl_y(
     again.wait("last kept: paragraph 4")
     again.keys("escape", "q")
     assert again.ended() == 0
-    assert Drafts(moon).cut() == ""
+    assert Drafts(moon).cut() == "rose"
 
 
 @pytest.mark.parametrize("typing", [True, False])

@@ -87,6 +87,37 @@ def test_what_is_cut_is_said_and_comes_back_in_another_line() -> None:
     assert back == Field(Purpose.NOTE, "It rose.", 8)
 
 
+def cut_out(state: State, purpose: Purpose, text: str) -> State:
+    """The state after all of a text was cut that is typed for a purpose."""
+    typed = Field(purpose, text, len(text))
+    return step(replace(state, typed=typed), "c-u").state
+
+
+def put_in(state: State, purpose: Purpose) -> str:
+    """What Ctrl-Y puts into a text for a purpose."""
+    typed = step(replace(state, typed=Field(purpose)), "c-y").state.typed
+    return typed.text if typed else ""
+
+
+@pytest.mark.parametrize(
+    "cuts, for_book, asked",
+    [
+        ([(Purpose.EDIT, "It rose."), (Purpose.WORDS, "moon")], "It rose.", "moon"),
+        ([(Purpose.WORDS, "moon"), (Purpose.EDIT, "It rose.")], "It rose.", "It rose."),
+        ([(Purpose.FOLDER, "pages")], "pages", "pages"),
+        ([(Purpose.NOTE, "which?")], "which?", "which?"),
+    ],
+)
+def test_what_is_cut_out_of_an_answer_takes_no_place_of_what_was_cut_for_the_book(
+    cuts: list[tuple[Purpose, str]], for_book: str, asked: str
+) -> None:
+    state = STATE
+    for purpose, text in cuts:
+        state = cut_out(state, purpose, text)
+    assert put_in(state, Purpose.AFTER) == put_in(state, Purpose.NOTE) == for_book
+    assert put_in(state, Purpose.WORDS) == asked
+
+
 def test_where_nothing_was_cut_nothing_is_put_in() -> None:
     state = replace(STATE, typed=Field(Purpose.AFTER, "It", 2))
     taken = step(state, "c-y").state

@@ -187,7 +187,7 @@ def test_each_mark_of_one_character_is_gone_to_shown_and_resolved(
     assert [f"2 marks here. {first}", second] == sat.lines[-5:-3]
     sat.press("n")
     assert [f"2 marks here. {second}", first] == sat.lines[-5:-3]
-    assert sat.lines[-2] == "Mark 2 begins here too."
+    assert sat.lines[-2] == "Mark 2 begins here."
     sat.press("n")
     assert sat.state.place == 5
     assert sat.lines[-5].startswith("3 marks here. Mark 3, open, on “o”: one o?")
@@ -231,6 +231,33 @@ def test_n_says_where_it_goes_around_and_that_there_is_no_other_mark(
     sat.press("left", "left", "N")
     assert sat.state.message == (
         "No open mark up to the front of the book: this is the last in it."
+    )
+
+
+def test_n_says_of_a_mark_on_whose_words_the_cursor_is_that_there_is_none_but_that(
+    moon: Path, sit: Sit
+) -> None:
+    sat = sit(moon)
+    sat.press("n", "right", "right", "n")
+    assert (sat.state.place, sat.state.message) == (
+        4,
+        "No open mark but mark 1 up to the end of the book: this is the first in it.",
+    )
+
+
+def test_n_says_from_which_mark_it_went_around_where_the_cursor_is_elsewhere(
+    moon: Path, sit: Sit
+) -> None:
+    with Session(moon) as session:
+        session.add_mark(1, 12, 3, "")
+    sat = sit(moon)
+    # the mark of the edit stays in hand, and the cursor is before both
+    sat.press("n", "n", "enter", "c-a", *"Oh, ", "enter")
+    assert sat.state.mark_in_hand and sat.state.mark_in_hand.id == 2
+    sat.press("n")
+    assert (sat.state.place, sat.state.message) == (
+        8,
+        "No open mark after mark 2 up to the end of the book: this is the first in it.",
     )
 
 

@@ -840,13 +840,14 @@ def test_an_import_is_reported_where_the_session_ends_that_comes_after_it(
     sat.press("enter")
     open_further = Desk._open_further
 
-    def opened_and_killed(desk: Desk) -> None:
+    def opened_and_killed(desk: Desk) -> str:
         monkeypatch.setattr(Desk, "_open_further", open_further)
-        open_further(desk)
+        said = open_further(desk)
         os.kill(desk.pid, signal.SIGKILL)
         if is_lost:
             once_free(moon).close()
             moon.rename(moon.with_name("away"))
+        return said
 
     monkeypatch.setattr(Desk, "_open_further", opened_and_killed)
     sat.state = sat.desk.away(sat.state, lambda said: None)
@@ -969,3 +970,44 @@ def test_lines_that_a_book_lacks_that_is_gone_are_offered_where_it_is(
     assert asked and "isn't in the book: “It set.”." in asked.sentence
     again.press("y", "enter")
     assert prints(again)[1:3] == ["It rose.", "It set."]
+
+
+def typed_elsewhere(moon: Path) -> Drafts:
+    """Another session of the book, as of another terminal, has a text wait, and is gone."""
+    drafts = Drafts(moon)
+    drafts.save(Draft(Aim.AFTER, 1, "en", "", "It set."))
+    drafts.keep_typed_last(f"{drafts.typed_last()}It set.")
+    return drafts
+
+
+@pytest.mark.parametrize("is_at_once", [True, False])
+def test_what_was_typed_elsewhere_since_a_session_ended_is_set_aside_and_said(
+    moon: Path, sit: Sit, monkeypatch: pytest.MonkeyPatch, is_at_once: bool
+) -> None:
+    sat = sit(moon)
+    sat.desk.typed_last.note("It rose.")
+    sat.desk.typed_last.keep()
+    if is_at_once:
+        drafts = typed_elsewhere(moon)
+        killed(sat)
+    else:
+        monkeypatch.setattr("braildesk.desk.aftermath.PATIENCE", 0.0)
+        os.kill(sat.desk.pid, signal.SIGKILL)
+        with once_free(moon):
+            sat.state = sat.desk.lost(sat.state)
+            assert sat.state.is_lost
+            drafts = typed_elsewhere(moon)
+        sat.press("enter")
+    assert not sat.state.is_lost
+    said = (
+        "What was typed elsewhere meanwhile is set aside: “It set.”. U brings it back."
+    )
+    assert said in sat.state.message
+    assert [each.text for each in drafts.given_up()] == ["It set."]
+    assert drafts.waiting() is None
+    assert sat.desk.typed_last.text == "It rose.It set."
+    sat.press("o")
+    sat.write("Noon.")
+    sat.state = sat.desk.save_draft(sat.state)
+    waiting = drafts.waiting()
+    assert waiting is not None and waiting.text == "Noon."

@@ -342,13 +342,13 @@ def test_what_others_set_during_an_import_is_not_of_this_one(
 ) -> None:
     open_further = Desk._open_further
 
-    def opened_after_others(desk: Desk) -> None:
+    def opened_after_others(desk: Desk) -> str:
         with Session(moon) as session:
             if is_volume:
                 session.set_begins_volume(2, True)
             else:
                 session.set_style(2, "heading")
-        open_further(desk)
+        return open_further(desk)
 
     monkeypatch.setattr(Desk, "_open_further", opened_after_others)
     sat = sit(moon)

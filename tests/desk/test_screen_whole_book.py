@@ -665,6 +665,26 @@ def test_a_change_that_was_cut_short_is_taken_back_and_then_what_was_done_before
     assert prints(tides) == ["The tide", TIDES]
 
 
+@pytest.mark.parametrize("far", [READ, KEPT])
+def test_a_change_that_was_cut_short_and_taken_back_is_not_asked_about_again(
+    tides: Path, sit: Sit, monkeypatch: pytest.MonkeyPatch, far: str
+) -> None:
+    # as above, and a place is gone to, so that the list is there no more and nothing was left
+    with monkeypatch.context() as patched:
+        for name, value in standing_in(2, far, KILL_PROGRAM).items():
+            patched.setenv(name, value)
+        sat = sit(tides)
+    asked(sat, "tide", "sea")
+    sat.press("a", "enter")
+    assert len(Drafts(tides).changes()) == 1
+    sat.press("u")
+    if far != READ:
+        sat.press("y")
+        sat.state = sat.desk.away(sat.state, print)
+    assert sat.state.message.startswith("Taken back: “tide” was replaced by “sea”")
+    assert Drafts(tides).changes() == ()
+
+
 @pytest.mark.parametrize("far", [READ, KEPT, ANSWERED])
 def test_a_place_that_was_changed_as_the_session_ended_is_taken_back(
     tides: Path, sit: Sit, monkeypatch: pytest.MonkeyPatch, far: str

@@ -12,12 +12,13 @@ from collections.abc import Callable
 from concurrent.futures import ThreadPoolExecutor
 from contextlib import closing
 from pathlib import Path
-from typing import BinaryIO
+from typing import Any, BinaryIO
 
 import pytest
 
 from braildesk import (
     CannotOpen,
+    Displaced,
     Failed,
     Lost,
     Session,
@@ -29,12 +30,13 @@ from braildesk import (
 from braildesk import snapshot as own
 from braildesk.files import contents
 from braildesk.held import copy_held
-from braildesk.opening import has_work, take_shared
+from braildesk.opening import LOGS, MAGIC, has_work, take_shared
 from braildesk.protocol.asked import BookFile
 from braildesk.protocol.requests import Correct, Restore, Strike
-from braildesk.snapshot import copied_session, snapshot
+from braildesk.snapshot import copied, copied_session, snapshot
 
 from scribe.cli.opened_book import without_log
+from scribe.words.export import copy_of_open
 from strangers import NEEDS_ROOT, STRANGER, as_stranger, lead_to
 from tool import scribe
 
@@ -424,3 +426,69 @@ def test_a_book_that_is_replaced_meanwhile_is_looked_at_as_it_is_then(
         with snapshot(moon):
             pass
     assert caught.value.why is Why.MISSING
+
+
+@pytest.mark.parametrize("is_away", [False, True])
+def test_no_log_of_another_book_is_copied_that_has_the_name_of_its_own_for_a_moment(
+    tmp_path: Path, monkeypatch: pytest.MonkeyPatch, is_away: bool
+) -> None:
+    book, log, other, aside = (tmp_path / it for it in ("b", "b-wal", "o-wal", "a-wal"))
+    book.write_bytes(MAGIC + bytes(84))
+    log.write_bytes(LOGS[0] + b"its own".ljust(100))
+    other.write_bytes(LOGS[0] + b"another".ljust(100))
+    names = [(log, aside), (other, log)][: 1 if is_away else 2]
+
+    def copied(file: BinaryIO, path: str, made: Path) -> os.stat_result:
+        changed = list(reversed(names))
+        while names:
+            os.rename(*names.pop(0))
+        found = copy_held(file, path, made)
+        for name, by_then in changed:
+            by_then.rename(name)
+        return found
+
+    monkeypatch.setattr(own, "copy_held", copied)
+    with snapshot(book) as copy:
+        assert Path(f"{copy}-wal").read_bytes() == log.read_bytes()
+    assert b"its own" in log.read_bytes()
+
+
+def test_no_other_book_is_copied_in_place_of_an_open_one(tmp_path: Path) -> None:
+    book, other = tmp_path / "book", tmp_path / "other"
+    for path in (book, other):
+        path.write_bytes(MAGIC + bytes(84))
+    with open(book, "rb") as file:
+        with copied(book, file.fileno()) as copy:
+            assert copy.read_bytes() == book.read_bytes()
+        other.replace(book)
+        with pytest.raises(CannotOpen), copied(book, file.fileno()):
+            pass
+
+
+def test_an_open_book_is_not_exported_from_another_at_its_path_meanwhile(
+    moon: Path, monkeypatch: pytest.MonkeyPatch
+) -> None:
+    other, aside = moon.with_name("other"), moon.with_name("aside")
+    shutil.copyfile(moon, other)
+    copy_of = own._copy
+
+    def swapped(*words: Any) -> None:
+        moon.rename(aside)
+        other.rename(moon)
+        try:
+            copy_of(*words)
+        finally:
+            moon.rename(other)
+            aside.rename(moon)
+
+    with Session(moon) as session:
+        with copy_of_open(session, moon, lambda: None) as copy:
+            assert copy is not None
+        monkeypatch.setattr(own, "_copy", swapped)
+        with copy_of_open(session, moon, lambda: None) as copy:
+            assert copy is None
+        other.replace(moon)
+        monkeypatch.undo()
+        with pytest.raises(Displaced):
+            with copy_of_open(session, moon, lambda: None):
+                pass

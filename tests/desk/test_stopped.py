@@ -14,7 +14,7 @@ from braildesk.desk.drafts import Drafts
 from braildesk.desk.export import Job
 from braildesk.desk.layout import PageSize
 
-from scribe.words.console import Console
+from scribe.words.console import WAITING, Console
 from scribe.words.export import export_in_words
 from scribe.words.status import Interrupted
 from sitting import Sit
@@ -298,6 +298,42 @@ def test_a_program_that_was_stopped_keeps_no_work_of_the_screen_from_ending(
     assert terminal.said == f"Stopped by SIGTERM. {said}\n"
     # and it isn't left behind
     assert not Path(f"/proc/{stopped}").exists()
+
+
+@pytest.mark.usefixtures("hurried")
+@pytest.mark.parametrize(
+    "key, said",
+    [
+        ("x", "Nothing was exported.\n"),
+        (
+            "i",
+            "braildesk didn't answer any more, and was ended. The book was opened again",
+        ),
+    ],
+)
+def test_a_session_that_was_stopped_keeps_no_work_of_the_screen_from_ending(
+    volumes: Path, at: Open, key: str, said: str
+) -> None:
+    folder = volumes.parent
+    path = folder / ("pages" if key == "x" else "text.txt")
+    if key == "i":
+        path.write_text("The sun\n")
+    terminal = at(volumes)
+    terminal.wait("? shows the keys.")
+    terminal.keys(key, str(path))
+    terminal.wait(path.name)
+    terminal.settle()
+    stopped = terminal.program()
+    os.kill(stopped, signal.SIGSTOP)
+    terminal.send("\r")
+    terminal.wait(WAITING)
+    terminal.send_signal(signal.SIGTERM)
+    assert terminal.ended() == -signal.SIGTERM
+    assert terminal.said.startswith(said)
+    assert not Path(f"/proc/{stopped}").exists()
+    assert (folder / "pages" / "moon-1.brf").read_bytes() == b"older"
+    with once_free(volumes) as session:
+        assert len(session.paragraphs()) == 3
 
 
 def test_a_taking_back_of_the_screen_ends_at_a_signal_and_says_how_far_it_came(

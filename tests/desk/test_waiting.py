@@ -5,14 +5,18 @@ import signal
 import time
 from io import BytesIO, StringIO
 from pathlib import Path
+from threading import Event, Thread
 
 import pytest
 
+from braildesk import Session
+from braildesk.desk.draft import Aim, Draft
 from braildesk.desk.drafts import Drafts
 
 from scribe.cli import run_words
 from scribe.screen.actions import ImportFrom
 from scribe.screen.background import done_in_background
+from scribe.screen.desk import Desk
 from scribe.words.console import Console
 from terminal import Open, Terminal, once_free
 from tool import WAIT_SECONDS
@@ -83,6 +87,28 @@ def test_what_is_said_of_an_import_beside_the_screen_is_no_more_how_far_it_was(
     done = done_in_background(moon, wanted, heard.append, lambda: None)
     assert done.lines == ("2 paragraphs typed, numbers 4 to 5, by the table en.",)
     assert "1 of 2 paragraphs typed." in heard
+
+
+def test_what_others_typed_while_the_screen_waited_for_the_book_is_taken_up(
+    moon: Path,
+) -> None:
+    is_open = Event()
+
+    def type_and_leave() -> None:
+        with Session(moon):
+            is_open.set()
+            time.sleep(0.5)
+            Drafts(moon).save(Draft(Aim.AFTER, 1, "plain.utb", "", "It rose."))
+
+    other = Thread(target=type_and_leave)
+    other.start()
+    is_open.wait()
+    desk = Desk(moon, WAIT_SECONDS)
+    other.join()
+    try:
+        assert desk.has_waiting
+    finally:
+        desk.close()
 
 
 def test_the_screen_says_that_it_waits_and_keeps_the_keys(moon: Path, at: Open) -> None:
@@ -255,7 +281,7 @@ def test_what_is_typed_for_a_new_paragraph_while_the_screen_waits_outlives_a_kil
     once_free(moon).close()
     again = at(moon)
     lines = " ".join(again.wait("set aside: "))
-    said = "What came while braildesk didn't answer is set aside: “oThe sun rose.”."
+    said = "What was typed while scribe was busy is set aside: “oThe sun rose.”."
     assert said in " ".join(lines.split())
     assert [each.text for each in Drafts(moon).given_up()] == ["oThe sun rose."]
     waits = Drafts(moon).waiting()

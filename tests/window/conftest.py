@@ -110,8 +110,11 @@ def given(monkeypatch: pytest.MonkeyPatch) -> Answers:
     """What is answered to each kind of dialog, and under "said" what was asked and reported."""
     answers: Answers = {"said": [], "choices": []}
 
-    def choice(over: object, title: str, said: str, names: Sequence[str]) -> int:
+    def choice(
+        over: object, title: str, said: str, names: Sequence[str], by_enter: int = 0
+    ) -> int:
         answers["said"].append(said)
+        answers["by_enter"] = names[by_enter]
         return int(answers["choices"].pop(0))
 
     def line_of(over: object, title: str, lines: Sequence[str], first: int) -> Any:

@@ -47,6 +47,8 @@ _LASTING = ("text", "table")
 
 #: What is told on the bus of the part that takes the focus, and of one in which another text is selected.
 FOCUS, SELECTION = "object:state-changed:focused", "object:text-selection-changed"
+#: What is told of a text that comes into a part.
+INSERTED = "object:text-changed:insert"
 _TOLD = (FOCUS, "object:text-caret-moved", SELECTION)
 
 #: States of parts.
@@ -391,7 +393,7 @@ def text_of(part: Part) -> str:
 
 
 @contextmanager
-def hearing() -> Iterator[list[tuple[str, str]]]:
+def hearing(kinds: Sequence[str] = _TOLD) -> Iterator[list[tuple[str, str]]]:
     """What is told on the bus of parts with the focus and of texts, in order, each with the part's name."""
     found: list[tuple[str, str]] = []
 
@@ -401,11 +403,13 @@ def hearing() -> Iterator[list[tuple[str, str]]]:
             found.append((event.type, event.source.get_name()))
 
     listener = Atspi.EventListener.new(take)
-    for kind in _TOLD:
+    for kind in kinds:
         listener.register(kind)
-    yield found
-    for kind in _TOLD:
-        listener.deregister(kind)
+    try:
+        yield found
+    finally:
+        for kind in kinds:
+            listener.deregister(kind)
 
 
 def _generate(code: int, kind: Part) -> None:

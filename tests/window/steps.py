@@ -42,6 +42,7 @@ STEPS: Mapping[str, Step] = {
     "Enter keeps it": _keys("Return"),
     "F6 to the message": _keys("F6"),
     "Escape back to the print": _keys("Escape"),
+    "to the mark again": _keys("F4"),
     "resolving the mark": _keys("Ctrl+r"),
     "to the braille": _keys("F8"),
     "a cell to the right": _keys("Right"),
@@ -73,4 +74,5 @@ STEPS: Mapping[str, Step] = {
     "Escape from the keys": _keys("Escape"),
     "export": _keys("Ctrl+e"),
     "Escape from export": _keys("Escape"),
+    "taking back what was done last": _keys("Ctrl+z"),
 }

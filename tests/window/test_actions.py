@@ -65,6 +65,9 @@ CASES = (
     Case("new_before", focus=("text", "Print")),
     Case("give_up", "This paragraph was empty, and wasn't added."),
     Case("bring_back", "No text is set aside in this book."),
+    # of letters, where these were pressed
+    Case("bring_typed"),
+    Case("give_up"),
     Case("to_cells", focus=("text", "Braille")),
     Case("to_message", focus=("text", "Message")),
     Case("to_paragraphs", focus=("table", "Paragraphs")),

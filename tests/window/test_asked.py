@@ -29,7 +29,7 @@ from braildesk.desk.draft import Aim, Draft
 from braildesk.desk.drafts import Drafts
 from braildesk.desk.layout import PageSize
 
-from scribe.window import dialogs
+from scribe.window import dialogs, typed_on
 from scribe.window.desk import Desk
 from scribe.window.files import Files
 from scribe.window.held import Held
@@ -225,6 +225,13 @@ def test_a_text_that_is_typed_on_at_the_texts_to_bring_back_chooses_none_of_them
         ([Qt.Key.Key_X, Qt.Key.Key_Y, Qt.Key.Key_Down, Qt.Key.Key_Return], "2. or so"),
         ([Qt.Key.Key_Tab, Qt.Key.Key_Tab, Qt.Key.Key_Return], None),
         ([Qt.Key.Key_Down, Qt.Key.Key_Escape], None),
+        # a digit that was taken away counts no more
+        (
+            [Qt.Key.Key_2, Qt.Key.Key_Backspace, Qt.Key.Key_3, Qt.Key.Key_Return],
+            "3. not so",
+        ),
+        # a number that no name has is of a text
+        ([*map(Qt.Key, b"1984"), Qt.Key.Key_Return, Qt.Key.Key_Return], None),
     ],
 )
 def test_of_names_one_is_chosen_by_keys_that_type_nothing_and_by_its_number(
@@ -233,7 +240,7 @@ def test_of_names_one_is_chosen_by_keys_that_type_nothing_and_by_its_number(
     keys: list[Qt.Key],
     name: str | None,
 ) -> None:
-    monkeypatch.setattr(dialogs, "_READING_SECONDS", 0.0)
+    monkeypatch.setattr(typed_on, "_READING_SECONDS", 0.0)
     over = QWidget()
 
     def press(names: QListWidget) -> None:
@@ -244,7 +251,7 @@ def test_of_names_one_is_chosen_by_keys_that_type_nothing_and_by_its_number(
 
     _at_names(press)
     names = ["1. so", "2. or so", "3. not so"]
-    with dialogs.taking(lambda text: None):
+    with typed_on.taking_at_names(lambda text: None):
         assert dialogs.one_of(over, "Bring back", "Which?", names, 0) == name
 
 
@@ -272,7 +279,7 @@ def test_space_and_enter_alone_press_the_button_that_has_the_focus(
     keys: str,
     answer: int | None,
 ) -> None:
-    monkeypatch.setattr(dialogs, "_READING_SECONDS", 0.0)
+    monkeypatch.setattr(typed_on, "_READING_SECONDS", 0.0)
     over, left = QWidget(), list[str]()
 
     def press(button: QPushButton, box: QMessageBox) -> None:
@@ -299,7 +306,7 @@ def test_space_and_enter_alone_press_the_button_that_has_the_focus(
 def test_a_space_that_comes_before_a_question_could_be_read_begins_a_text(
     application: QApplication, monkeypatch: pytest.MonkeyPatch
 ) -> None:
-    monkeypatch.setattr(dialogs, "_READING_SECONDS", 3600.0)
+    monkeypatch.setattr(typed_on, "_READING_SECONDS", 3600.0)
     over, typed = QWidget(), list[str]()
 
     def press(button: QPushButton, box: QMessageBox) -> None:
@@ -319,8 +326,8 @@ def test_a_text_that_begins_with_a_blank_presses_no_button_and_is_set_aside(
     application: QApplication, monkeypatch: pytest.MonkeyPatch, text: str
 ) -> None:
     clock = [0.0]
-    monkeypatch.setattr(dialogs, "time", SimpleNamespace(monotonic=lambda: clock[0]))
-    monkeypatch.setattr(dialogs, "_READING_SECONDS", 3600.0)
+    monkeypatch.setattr(typed_on, "time", SimpleNamespace(monotonic=lambda: clock[0]))
+    monkeypatch.setattr(typed_on, "_READING_SECONDS", 3600.0)
     over, typed, focused = QWidget(), list[str](), list[str]()
 
     def type_on(button: QPushButton, box: QMessageBox) -> None:
@@ -346,8 +353,8 @@ def test_a_space_after_which_no_letter_comes_presses_the_button_a_moment_later(
     keys: list[Qt.Key],
 ) -> None:
     clock = [0.0]
-    monkeypatch.setattr(dialogs, "time", SimpleNamespace(monotonic=lambda: clock[0]))
-    monkeypatch.setattr(dialogs, "_READING_SECONDS", 0.01)
+    monkeypatch.setattr(typed_on, "time", SimpleNamespace(monotonic=lambda: clock[0]))
+    monkeypatch.setattr(typed_on, "_READING_SECONDS", 0.01)
     over, seen = QWidget(), list[bool]()
 
     def press(button: QPushButton, box: QMessageBox) -> None:
@@ -366,8 +373,8 @@ def test_a_space_that_is_held_down_is_not_repeated_below_the_question(
     application: QApplication, monkeypatch: pytest.MonkeyPatch
 ) -> None:
     clock = [0.0]
-    monkeypatch.setattr(dialogs, "time", SimpleNamespace(monotonic=lambda: clock[0]))
-    monkeypatch.setattr(dialogs, "_READING_SECONDS", 0.001)
+    monkeypatch.setattr(typed_on, "time", SimpleNamespace(monotonic=lambda: clock[0]))
+    monkeypatch.setattr(typed_on, "_READING_SECONDS", 0.001)
     over, seen = QWidget(), list[bool]()
     kinds = QEvent.Type
 
@@ -405,8 +412,8 @@ def test_a_space_is_held_no_longer_once_another_key_is_pressed(
     answer: int,
 ) -> None:
     clock = [0.0]
-    monkeypatch.setattr(dialogs, "time", SimpleNamespace(monotonic=lambda: clock[0]))
-    monkeypatch.setattr(dialogs, "_READING_SECONDS", 0.001)
+    monkeypatch.setattr(typed_on, "time", SimpleNamespace(monotonic=lambda: clock[0]))
+    monkeypatch.setattr(typed_on, "_READING_SECONDS", 0.001)
     over = QWidget()
 
     def press(button: QPushButton, box: QMessageBox) -> None:
@@ -508,7 +515,7 @@ def test_an_enter_that_is_held_down_gives_no_answer_to_a_dialog_that_it_opened(
 def test_a_text_that_is_typed_on_at_the_tables_chooses_none_of_them(
     desk: Desk, monkeypatch: pytest.MonkeyPatch, text: str
 ) -> None:
-    monkeypatch.setattr(dialogs, "_SEARCH_SECONDS", 0.2)
+    monkeypatch.setattr(typed_on, "_SEARCH_SECONDS", 0.2)
     parts = text.split("\n")
     text = "".join(parts)
 
@@ -534,7 +541,7 @@ def test_a_text_that_is_typed_on_at_the_tables_chooses_none_of_them(
 def test_a_table_is_looked_for_by_its_first_letters(
     desk: Desk, monkeypatch: pytest.MonkeyPatch, letters: str
 ) -> None:
-    monkeypatch.setattr(dialogs, "_SEARCH_SECONDS", 0.2)
+    monkeypatch.setattr(typed_on, "_SEARCH_SECONDS", 0.2)
     monkeypatch.setattr("scribe.window.structure.table_names", lambda: ["ueb"])
 
     def look(names: QListWidget) -> None:
@@ -555,7 +562,51 @@ def test_a_table_is_looked_for_by_its_first_letters(
     _at_names(look)
     desk.act("table")
     assert desk.contents.paragraphs[0].table == "ueb"
-    assert all(len(each.text) > 2 for each in Drafts(desk.path).given_up())
+    assert Drafts(desk.path).given_up() == ()
+
+
+@pytest.mark.parametrize(
+    "letters, name",
+    [
+        ("u", "ueb"),
+        ("uu", "unb"),
+        ("uuu", "ueb"),
+        ("un", "unb"),
+        # what was taken away counts no more
+        ("ux\bn", "unb"),
+        ("uu\b", "unb"),
+        # also after so long that the list of Qt would begin anew
+        ("u n", "unb"),
+        # a number that no name has is of a text
+        ("12\r", None),
+    ],
+)
+def test_the_table_is_chosen_that_begins_with_the_letters_that_are_typed_by_now(
+    application: QApplication,
+    monkeypatch: pytest.MonkeyPatch,
+    letters: str,
+    name: str | None,
+) -> None:
+    monkeypatch.setattr(typed_on, "_SEARCH_SECONDS", 60.0)
+    names, over, its = ["en", "nl", "ueb", "unb"], QWidget(), list[str]()
+
+    def look(found: QListWidget) -> None:
+        for letter in letters:
+            if letter == " ":
+                time.sleep(1.25 * QApplication.keyboardInputInterval() / 1000)
+            elif letter in "\b\r":
+                key = Qt.Key.Key_Return if letter == "\r" else Qt.Key.Key_Backspace
+                _HANDS.keyClick(found, key)
+            else:
+                _HANDS.keyClicks(found, letter)
+        dialog = found.window()
+        _HANDS.keyClick(dialog.focusWidget(), Qt.Key.Key_Return)
+        assert not dialog.isVisible()
+
+    _at_names(look)
+    with typed_on.taking_at_search(its.append, names):
+        assert dialogs.one_of(over, "Table", "Which?", names, 0) == name
+    assert its[-1:] == ([""] if name else ["12"])
 
 
 def test_a_window_that_is_ended_waits_for_no_hands(application: QApplication) -> None:
@@ -596,6 +647,31 @@ def test_no_dialog_opens_by_itself_while_hands_type(
     worker = Worker(held)
     assert dialogs.long(over, worker, "Import", lambda say, is_stopped: is_seen.wait())
     assert seen == [None] * 8
+    worker.stop()
+    held.stop()
+
+
+def test_no_dialog_closes_by_itself_while_hands_type(
+    application: QApplication, monkeypatch: pytest.MonkeyPatch
+) -> None:
+    monkeypatch.setattr(dialogs, "_SHOWN_AFTER_SECONDS", 0)
+    over, held, is_done = QMainWindow(), Held(), Event()
+    over.show()
+    typed, none = list[str](), Qt.KeyboardModifier(0)
+
+    def type_on() -> None:
+        dialog = QApplication.activeModalWidget()
+        if dialog is not None and dialog.isVisible() and len(typed) < 16:
+            key = QKeyEvent(QEvent.Type.KeyPress, Qt.Key.Key_A, none, "a")
+            QCoreApplication.sendEvent(dialog.windowHandle(), key)
+            is_done.set()
+        QTimer.singleShot(20, type_on)
+
+    QTimer.singleShot(0, type_on)
+    worker = Worker(held)
+    work = lambda say, is_stopped: is_done.wait()
+    assert dialogs.long(over, worker, "Import", work, typed.append)
+    assert typed[-1] == "a" * 16
     worker.stop()
     held.stop()
 
@@ -698,6 +774,48 @@ def test_what_is_typed_before_a_question_is_there_answers_nothing_and_is_set_asi
     assert field.text() == ""
 
 
+@pytest.mark.parametrize(
+    "keys, name, aside",
+    [
+        ("2", "2. or so", ""),
+        ("un", "unb", ""),
+        ("1984", "1. so", "1984"),
+        ("und hier", "unb", "und hier"),
+    ],
+)
+def test_what_is_typed_before_names_are_there_goes_to_a_name_or_is_set_aside(
+    application: QApplication,
+    monkeypatch: pytest.MonkeyPatch,
+    keys: str,
+    name: str,
+    aside: str,
+) -> None:
+    monkeypatch.setattr(test_held, "_PACE_SECONDS", 0.0)
+    over, field, held = QMainWindow(), QLineEdit(), Held()
+    over.setCentralWidget(field)
+    over.show()
+    over.activateWindow()
+    assert wait(application, 60, field.hasFocus)
+    typed, is_search = list[str](), name == "unb"
+    names = ["en", "ueb", "unb", "x"] if is_search else ["1. so", "2. or so", "3. so"]
+
+    def answer(found: QListWidget) -> None:
+        for key in (Qt.Key.Key_Down, Qt.Key.Key_Up, Qt.Key.Key_Return):
+            _HANDS.keyClick(found, key)
+
+    test_held.press_at_once([*map(ord, keys)])
+    time.sleep(_MOMENT_SECONDS)
+    _at_names(answer)
+    if is_search:
+        taking = typed_on.taking_at_search(typed.append, names, held.holding)
+    else:
+        taking = typed_on.taking_at_names(typed.append, held.holding)
+    with taking:
+        found = dialogs.one_of(over, "Names", "Which?", names, 0)
+    held.stop()
+    assert (found, typed[-1:], field.text()) == (name, [aside], "")
+
+
 def _of_lines(window: Reader) -> None:
     # the lines of a report are copied, and pasted into a new paragraph
     window.press("F1")
@@ -789,7 +907,9 @@ def test_what_is_typed_on_at_a_question_is_kept_also_where_the_program_is_killed
     window.press("Escape")
     window.no_dialog()
     window.opened()
-    window.says(_ASIDE.format("abcde fghij"))
+    window.says(
+        "What was typed where no text was asked for is set aside: “abcde fghij”. Ctrl+B brings it back."
+    )
     waiting = Drafts(moon).waiting()
     assert waiting is not None and waiting.text == _LONG
 

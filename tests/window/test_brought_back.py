@@ -8,6 +8,7 @@ from pathlib import Path
 
 import pytest
 from PyQt6.QtCore import QMimeData
+from PyQt6.QtWidgets import QApplication
 
 from braildesk import Paragraph, new_book, requests
 from braildesk.desk.draft import Aim, Draft, Unread
@@ -64,13 +65,19 @@ def test_what_is_typed_after_a_text_that_was_brought_back_is_taken_back_alone(
     assert (field.text, _kept(desk)) == (draft.text, ([], draft.text))
     desk.act("take_back")
     assert (field.text, desk.window.message.text) == (draft.before, GIVEN_UP)
-    assert _kept(desk) == ([draft.text], "")
+    # all of it is given up, and only once
+    whole = f"{draft.text} So."
+    assert _kept(desk) == ([whole], "")
     # it is there again by either key
     field.redo()
-    assert (field.text, _kept(desk)[1]) == (draft.text, draft.text)
-    desk.act("take_back")
+    assert (field.text, _kept(desk)) == (draft.text, ([whole], draft.text))
+    assert desk.window.message.text == ""
+    field.redo()
+    assert (field.text, _kept(desk)) == (whole, ([], whole))
+    for _ in range(2):
+        desk.act("take_back")
     desk.act("bring_back")
-    assert (field.text, _kept(desk)) == (draft.text, ([], draft.text))
+    assert (field.text, _kept(desk)) == (whole, ([], whole))
     desk.act("give_up")
 
 
@@ -99,19 +106,161 @@ def test_what_was_typed_is_not_lost_where_it_is_taken_back_and_what_was_done_bef
     assert desk.window.print.text == "The Moon"
     whole = f"So: one {typed.removeprefix('So: ')}"
     assert desk.window.message.text.endswith(
-        f"What was typed before that is set aside: “{whole}”. Ctrl+B brings it back."
+        f"What was typed and taken back is set aside: “{whole}”. Ctrl+B brings it back."
     )
     assert _kept(desk) == ([whole], "")
 
 
-def test_each_text_that_was_typed_and_taken_back_is_set_aside_where_more_is(
+def test_of_a_text_that_was_taken_back_in_a_long_print_it_is_said_what_was_typed(
+    desk: Desk,
+) -> None:
+    desk.choose(2)
+    _type(desk, "As the sailors here on the coast say: ")
+    desk.act("keep")
+    desk.window.print.put_caret(len(desk.window.print.text))
+    _type(desk, " So it is.")
+    for _ in range(2):
+        desk.act("take_back")
+    said = "What was typed and taken back is set aside: “… up. So it is.”."
+    assert desk.window.message.text.endswith(f"{said} Ctrl+B brings it back.")
+
+
+def test_a_text_is_set_aside_that_another_one_took_the_place_of_where_both_are_taken_back(
+    desk: Desk,
+) -> None:
+    desk.act("new_after")
+    _type(desk, "It rose.")
+    desk.window.print.selectAll()
+    _paste(desk, "Twice a day the sea comes up.")
+    for text in ("It rose.", ""):
+        desk.act("take_back")
+        assert desk.window.print.text == text
+    _type(desk, "x")
+    given_up = ["It rose.", "Twice a day the sea comes up."]
+    assert sorted(_kept(desk)[0]) == given_up
+    desk.act("give_up")
+
+
+@pytest.mark.parametrize("place, count", [(6, 1), (10, 3)])
+def test_what_was_only_taken_away_and_is_there_again_is_not_set_aside(
+    desk: Desk, place: int, count: int
+) -> None:
+    desk.choose(1)
+    desk.window.print.put_caret(place)
+    for _ in range(count):
+        desk.window.print.textCursor().deletePreviousChar()
+    desk.act("take_back")
+    assert desk.window.print.text == "The mon is far away."
+    desk.choose(2)
+    assert (_kept(desk), desk.window.message.text) == (([], ""), "")
+
+
+@pytest.mark.parametrize("is_new", [True, False])
+def test_what_is_set_aside_is_not_said_after_what_was_said_of_something_else(
+    desk: Desk, is_new: bool
+) -> None:
+    desk.act("heading")
+    assert desk.window.message.text.startswith("Kept: ")
+    _type(desk, "So: ")
+    desk.act("take_back")
+    if is_new:
+        desk.act("new_after")
+    else:
+        desk.window.choose(1)
+    assert desk.window.message.text == (
+        "What was typed and taken back is set aside: “So: The Moon”. Ctrl+B brings it back."
+    )
+
+
+def test_each_text_that_was_taken_back_is_set_aside_once_no_key_types_it_again(
     desk: Desk,
 ) -> None:
     for text in ("So: ", "Oh, "):
         _type(desk, text)
-        for _ in range(2):
-            desk.act("take_back")
+        desk.act("take_back")
+    # the last one comes back by the key for that
+    assert _kept(desk) == (["So: The Moon"], "")
+    desk.choose(1)
     assert _kept(desk) == (["Oh, The Moon", "So: The Moon"], "")
+
+
+@pytest.mark.parametrize("act", ["keep", "give_up", "new_after", "heading"])
+def test_the_end_of_a_text_that_was_taken_back_is_set_aside_once_the_rest_is_kept_or_given_up(
+    desk: Desk, act: str
+) -> None:
+    desk.act("new_after")
+    _type(desk, "It")
+    _paste(desk, " rose.")
+    desk.act("take_back")
+    assert (desk.window.print.text, _kept(desk)) == ("It", ([], "It"))
+    desk.act(act)
+    assert _kept(desk) == (["It rose."], "")
+
+
+@pytest.mark.parametrize(
+    "earlier, act", [("next_mark", "new_after"), ("heading", "new_before")]
+)
+def test_a_text_that_was_given_up_is_said_after_nothing_of_an_earlier_action(
+    desk: Desk, earlier: str, act: str
+) -> None:
+    desk.act("to_print")
+    desk.act(earlier)
+    assert desk.window.message.text
+    _type(desk, "So: ")
+    desk.act("take_back")
+    desk.act(act)
+    assert desk.new is not None
+    assert desk.window.message.text.startswith("What was typed and taken back is set")
+    # nor is it said again by an action that says nothing
+    desk.act("give_up")
+    assert desk.window.message.text == "This paragraph was empty, and wasn't added."
+
+
+def test_a_text_that_was_taken_back_is_set_aside_where_the_new_paragraph_is_left(
+    desk: Desk,
+) -> None:
+    desk.act("new_after")
+    _type(desk, "It rose.")
+    desk.act("take_back")
+    desk.act("give_up")
+    assert desk.window.message.text == (
+        "This paragraph was empty, and wasn't added. What was typed and taken back is set aside:"
+        " “It rose.”. Ctrl+B brings it back."
+    )
+    assert _kept(desk) == (["It rose."], "")
+
+
+def test_a_text_that_was_taken_back_is_set_aside_where_an_empty_print_is_given_up(
+    desk: Desk,
+) -> None:
+    desk.window.print.selectAll()
+    desk.window.print.textCursor().removeSelectedText()
+    _paste(desk, "It rose.")
+    desk.act("take_back")
+    assert (desk.window.print.text, _kept(desk)) == ("", ([], ""))
+    desk.act("give_up")
+    assert (desk.window.print.text, _kept(desk)) == ("The Moon", (["It rose."], ""))
+
+
+def test_a_text_that_was_taken_back_is_set_aside_where_the_window_is_closed(
+    desk: Desk,
+) -> None:
+    _type(desk, "So: ")
+    desk.act("take_back")
+    assert desk.window.close()
+    assert _kept(desk) == (["So: The Moon"], "")
+
+
+def test_a_text_that_was_taken_back_is_set_aside_where_the_window_is_ended(
+    application: QApplication, moon: Path
+) -> None:
+    desk = Desk(moon, None, 0.0, PageSize())
+    desk.acts = Actions(desk).by_name
+    desk.begin()
+    _type(desk, "So: ")
+    desk.act("take_back")
+    desk.close()
+    assert [each.text for each in Drafts(moon).given_up()] == ["So: The Moon"]
 
 
 def test_what_was_typed_and_taken_away_is_set_aside_where_more_is_taken_back(
@@ -135,18 +284,19 @@ def test_what_was_typed_after_a_text_that_was_brought_back_is_set_aside_where_mo
     _type(desk, " So.")
     for _ in range(3):
         desk.act("take_back")
-    assert _kept(desk) == ([f"{EDIT.text} So.", EDIT.text], "")
+    assert _kept(desk) == ([f"{EDIT.text} So."], "")
 
 
 def test_what_was_taken_back_is_not_given_up_any_more_once_it_is_typed_again(
     desk: Desk,
 ) -> None:
     _type(desk, "So: ")
-    for _ in range(2):
-        desk.act("take_back")
-    said = "What was typed before that is set aside: “So: The Moon”."
-    assert said in desk.window.message.text and _kept(desk) == (["So: The Moon"], "")
-    desk.window.print.redo()
+    desk.act("take_back")
+    _type(desk, "So")
+    said = "What was typed and taken back is set aside: “So: The Moon”."
+    assert said in desk.window.message.text
+    assert _kept(desk) == (["So: The Moon"], "SoThe Moon")
+    _type(desk, ": ")
     assert said not in desk.window.message.text
     assert _kept(desk) == ([], "So: The Moon")
 
@@ -383,6 +533,20 @@ def test_that_a_text_was_given_up_is_not_said_once_it_came_back_by_redo(
     desk.act("give_up")
 
 
+def test_where_a_new_paragraph_is_brought_back_the_print_shows_no_other_text_meanwhile(
+    desk: Desk, first: None
+) -> None:
+    desk.put_by(Draft(Aim.AFTER, 2, "en", "", "It rose."))
+    shown: list[str] = []
+    field = desk.window.print
+    field.textChanged.connect(lambda: shown.append(field.text))
+    desk.act("bring_back")
+    assert (desk.number, field.text) == (2, "It rose.")
+    assert set(shown) <= {"", "It rose."}
+    desk.act("give_up")
+    assert (desk.number, field.text) == (2, "The mon is far away.")
+
+
 def test_of_a_text_of_a_struck_paragraph_it_is_said_that_it_would_be_a_new_one(
     desk: Desk, first: None
 ) -> None:
@@ -538,7 +702,7 @@ def test_what_waits_is_all_said_at_the_opening(desk: Desk) -> None:
     drafts.keep_unread(Unread("", aside))
     desk.acting(Actions(desk).offer)
     assert desk.window.message.text == (
-        "What came while braildesk didn't answer is set aside: “It rose.”. Ctrl+B brings it back."
+        "What was typed while scribe was busy is set aside: “It rose.”. Ctrl+B brings it back."
         " “sea” was to be changed to “ocean”, which may not be done. Ctrl+H has the words still."
     )
 
@@ -666,3 +830,15 @@ def test_texts_of_a_long_paragraph_are_told_by_where_they_are_not_as_the_book(
     Drafts(desk.path).save(Draft(Aim.EDIT, 1, "en", before, texts[1]))
     desk.acting(Actions(desk).offer)
     assert "isn't in the book: “… up. So it is.”." in given["said"][0]
+
+
+def test_nothing_is_set_aside_where_what_was_taken_away_came_back(desk: Desk) -> None:
+    cursor = desk.window.print.textCursor()
+    cursor.select(cursor.SelectionType.WordUnderCursor)
+    cursor.removeSelectedText()
+    desk.act("take_back")
+    desk.window.print.put_caret(0)
+    assert desk.window.print.text == "The Moon"
+    _type(desk, "So: ")
+    assert _kept(desk) == ([], "So: The Moon")
+    assert desk.window.message.text == ""

@@ -20,7 +20,7 @@ from PyQt6.QtWidgets import QApplication, QDialog, QLabel, QPushButton, QWidget
 from braildesk import Session, requests
 from braildesk.desk.drafts import Drafts
 
-from scribe.window import dialogs
+from scribe.window import dialogs, typed_on
 from scribe.window.desk import Desk
 from scribe.words.drafts import Unsent
 
@@ -32,7 +32,7 @@ MANY = 300
 STAND_IN = Path(__file__).resolve().parents[1] / "desk" / "stand_in.py"
 _MOMENT_SECONDS = 0.2
 _ASIDE = (
-    "What came while braildesk didn't answer is set aside: “{}”. Ctrl+B brings it back."
+    "What was typed while scribe was busy is set aside: “{}”. Ctrl+B brings it back."
 )
 # its types are those of an object, of which Qt makes none
 _HANDS: Any = QTest
@@ -325,7 +325,7 @@ def test_a_text_that_is_typed_while_something_takes_long_does_not_end_it_and_is_
     desk.acting(lambda: ended.append(desk.long("Table", work)))
     timer.stop()
     assert ended == [False]
-    said = "What came while braildesk didn't answer is set aside: “It rose.”. Ctrl+B brings it back."
+    said = "What was typed while scribe was busy is set aside: “It rose.”. Ctrl+B brings it back."
     assert desk.window.message.text == said
     assert [each.text for each in desk.unsent.texts()] == ["It rose."]
 
@@ -361,8 +361,8 @@ def test_a_text_that_begins_with_a_blank_does_not_end_what_takes_long(
     desk: Desk, monkeypatch: pytest.MonkeyPatch, text: str, is_read: bool
 ) -> None:
     clock = [0.0]
-    monkeypatch.setattr(dialogs, "time", SimpleNamespace(monotonic=lambda: clock[0]))
-    monkeypatch.setattr(dialogs, "_READING_SECONDS", 3600.0)
+    monkeypatch.setattr(typed_on, "time", SimpleNamespace(monotonic=lambda: clock[0]))
+    monkeypatch.setattr(typed_on, "_READING_SECONDS", 3600.0)
     monkeypatch.setattr(dialogs, "_SHOWN_AFTER_SECONDS", 0)
 
     def type_on(over: QDialog) -> None:
@@ -378,7 +378,7 @@ def test_a_text_that_begins_with_a_blank_does_not_end_what_takes_long(
 def test_space_alone_ends_what_takes_long_a_moment_later(
     application: QApplication, desk: Desk, monkeypatch: pytest.MonkeyPatch
 ) -> None:
-    monkeypatch.setattr(dialogs, "_READING_SECONDS", 0.01)
+    monkeypatch.setattr(typed_on, "_READING_SECONDS", 0.01)
     monkeypatch.setattr(dialogs, "_SHOWN_AFTER_SECONDS", 0)
 
     def press(over: QDialog) -> None:

@@ -134,6 +134,27 @@ def test_what_is_said_meanwhile_stays_while_it_is_tried_to_keep_a_text(
     desk.window.print.setPlainText("The Moon")
 
 
+def test_that_a_held_text_can_be_kept_nowhere_is_said_once_and_until_it_is_tried_again(
+    desk: Desk,
+    application: QApplication,
+    tmp_path: Path,
+    monkeypatch: pytest.MonkeyPatch,
+) -> None:
+    _without_folder(tmp_path)
+    monkeypatch.setattr(Held, "text", "Typed on meanwhile.")
+    desk.held.changed.emit()
+    message = desk.window.message
+    assert wait(application, 5, lambda: "can't be kept in" in message.text)
+    said = message.text
+    desk.say("The caret is on no mark.")
+    assert not wait(application, 2.5, lambda: "can't be kept in" in message.text)
+    desk.say(said)
+    (tmp_path / "state" / "braildesk").unlink()
+    assert wait(application, 5, lambda: message.text == "")
+    assert Drafts(desk.path).unread() is not None
+    monkeypatch.setattr(Held, "text", "")
+
+
 def test_that_a_text_which_is_held_can_be_kept_nowhere_is_said_until_it_is_kept(
     desk: Desk,
     application: QApplication,
@@ -287,6 +308,33 @@ def test_of_what_is_typed_in_a_closed_book_it_is_not_said_that_enter_keeps_it(
     there.rename(moon)
     desk.act("open_again")
     assert desk.window.here.text.endswith(f" yet. {keeps}")
+    desk.act("give_up")
+
+
+@pytest.mark.parametrize("act", ["to_print", "new_after"])
+def test_a_text_that_is_given_up_in_a_closed_book_is_brought_back_there(
+    desk: Desk, moon: Path, monkeypatch: pytest.MonkeyPatch, act: str
+) -> None:
+    monkeypatch.setattr(dialogs, "one_of", lambda _, title, asked, names, n: names[0])
+    field = desk.window.print
+    desk.act(act)
+    field.insertPlainText("Oh, ")
+    typed = field.text
+    os.kill(desk.book.pid, signal.SIGKILL)
+    moon.rename(there := moon.with_name("elsewhere"))
+    desk.act("keep")
+    assert desk.is_closed and desk.is_typed()
+    desk.act("give_up")
+    assert desk.window.message.text == (
+        "Given up. The book is as it was. Ctrl+B brings it back."
+    )
+    assert field.text == "The Moon"
+    desk.act("bring_back")
+    assert (field.text, desk.window.message.text) == (typed, "")
+    assert desk.is_waiting() and not desk.unsent.texts()
+    there.rename(moon)
+    desk.act("open_again")
+    assert field.text == typed
     desk.act("give_up")
 
 
@@ -487,6 +535,57 @@ def test_what_is_pasted_into_the_message_is_said_not_to_be_typed_as_a_letter_is(
     window.print.setPlainText("The Moon")
 
 
+@pytest.mark.parametrize("name", ["here", "marks", "page"])
+def test_what_is_typed_where_something_is_only_read_is_said_not_to_be(
+    desk: Desk, name: str
+) -> None:
+    window, none = desk.window, Qt.KeyboardModifier.NoModifier
+    field = getattr(window, name)
+    window.dock.show()
+    field.setFocus()
+
+    def press(key: Qt.Key, text: str) -> None:
+        kind = QEvent.Type.KeyPress
+        QApplication.sendEvent(window.focusWidget(), QKeyEvent(kind, key, none, text))
+
+    text, said = field.text, window.message.text
+    press(Qt.Key.Key_Space, " ")
+    assert (window.message.text, window.focusWidget()) == (said, field)
+    for letter in "und hier":
+        press(Qt.Key(ord(letter.upper())), letter)
+    nowhere = "Nothing is typed here: a text goes into the print. F2 goes there."
+    assert (window.message.text, window.focusWidget()) == (nowhere, window.message)
+    press(Qt.Key.Key_Escape, "\x1b")
+    assert (field.text, window.focusWidget()) == (text, field)
+    assert window.print.text == "The Moon"
+
+
+@pytest.mark.parametrize(
+    "act", ["strike", "mark", "resolve", "table", "headings", "to_print", "history"]
+)
+def test_of_a_closed_book_nothing_is_offered_that_can_not_be_done_there(
+    desk: Desk, act: str
+) -> None:
+    desk.act("strike")
+    os.kill(desk.book.pid, signal.SIGKILL)
+    desk.path.rename(other := desk.path.with_name("other.braildesk"))
+    desk.act("heading")
+    assert desk.is_closed
+    closed = desk.closed
+    assert "restore" not in desk.window.print_label.text()
+    desk.say("")
+    desk.act(act)
+    if act == "to_print":
+        none, kind = Qt.KeyboardModifier.NoModifier, QEvent.Type.KeyPress
+        letter = QKeyEvent(kind, Qt.Key.Key_X, none, "x")
+        QApplication.sendEvent(desk.window.print, letter)
+        closed += " Nothing was typed."
+    assert desk.window.message.text == closed
+    other.rename(desk.path)
+    desk.act("open_again")
+    assert desk.window.print_label.text().endswith("; restore it to type in it")
+
+
 def test_a_letter_that_dead_keys_make_is_typed_on_and_changes_nothing_that_is_read(
     desk: Desk,
 ) -> None:
@@ -530,10 +629,13 @@ def test_what_is_typed_in_a_struck_paragraph_is_said_not_to_be(
     desk.act("to_print")
     desk.say("")
     code, kind = Qt.Key(ord(letter.upper())), QEvent.Type.KeyPress
-    QApplication.sendEvent(desk.window.print, QKeyEvent(kind, code, held, letter))
-    assert desk.window.message.text == said
     focused = desk.window.message if said else desk.window.print
-    assert desk.window.focusWidget() is focused
+    # the second one comes where the message has the focus by then
+    for _ in range(2):
+        key = QKeyEvent(kind, code, held, letter)
+        QApplication.sendEvent(desk.window.focusWidget(), key)
+        assert desk.window.message.text == said
+        assert desk.window.focusWidget() is focused
     assert (desk.window.print.text == "The Moon") is is_struck
     desk.act("give_up")
 
@@ -658,6 +760,7 @@ def test_what_is_in_a_book_that_is_gone_is_said_to_be_and_what_is_typed_on_is_of
     assert Drafts(there).waiting() is None and Drafts(desk.path).waiting() is None
     # letters that are typed on are offered where that is opened
     field.insertPlainText("einmal")
+    assert "What was typed last is in it." not in desk.window.message.text
     desk.wait_for_draft()
     (drafts := Drafts(there)).take_in()
     waiting = drafts.waiting()
@@ -843,3 +946,24 @@ def test_a_window_says_at_the_end_which_book_it_had_where_its_link_leads_to_anot
     window.press("Ctrl+q")
     shown, _ = window.program.communicate(timeout=120)
     assert shown.decode() == f"“{moon}” is at version 6.\n"
+
+
+def test_what_was_typed_elsewhere_before_the_book_is_open_again_is_set_aside_and_said(
+    desk: Desk,
+) -> None:
+    desk.act("new_after")
+    desk.window.print.insertPlainText("It rose.")
+    assert desk.is_waiting()
+    # another session of the book, as of another window
+    drafts = Drafts(desk.path)
+    drafts.save(Draft(Aim.AFTER, 1, "en", "", "It set."))
+    said = desk.taken_again(desk.asked(desk.book.contents))
+    assert said == (
+        "What was typed elsewhere meanwhile is set aside: “It set.”. Ctrl+B brings it back."
+    )
+    assert [each.text for each in drafts.given_up()] == ["It set."]
+    assert desk.window.print.text == "It rose."
+    assert desk.is_waiting()
+    waiting = drafts.waiting()
+    assert waiting is not None and waiting.text == "It rose."
+    desk.act("give_up")

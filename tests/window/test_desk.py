@@ -4,7 +4,7 @@ import os
 import signal
 import sys
 import time
-from collections.abc import Callable, Sequence
+from collections.abc import Callable, Iterator, Sequence
 from concurrent.futures import Future
 from pathlib import Path
 from threading import Event
@@ -16,29 +16,40 @@ from PyQt6.QtGui import QDropEvent
 from PyQt6.QtWidgets import QApplication, QDialog, QLabel
 
 from braildesk import CannotOpen, Session, Style, Why, copy, new_book, requests
+from braildesk.desk.documents.kinds import ManuscriptKind
+from braildesk.desk.documents.options import ReadingOptions
 from braildesk.desk.drafts import Drafts
 from braildesk.desk.export import Job
+from braildesk.desk.import_note import How, ImportNote
 from braildesk.desk.import_text import Import
 from braildesk.desk.intake import Intake
 from braildesk.desk.layout import PageSize
 from braildesk.desk.manuscripts import taken
 from braildesk.desk.typist import type_all
+from braildesk.desk.unfinished import NotSeen
 from braildesk.text.spans import Span
 
 from scribe.window import dialogs
 from scribe.window.actions import Actions
 from scribe.window.book import Contents, OpenBook
 from scribe.window.desk import CLOSED, Desk
+from scribe.window.files import Files
 from scribe.window.held import Held
 from scribe.window.worker import Worker
-from scribe.words.console import Console
+from scribe.words.console import WAITING, Console
 from scribe.words.drafts import typed_at_offer
 from scribe.words.export import export_in_words
-from scribe.words.import_text import Outcome, import_in_words
+from scribe.words.import_text import (
+    Outcome,
+    import_in_words,
+    not_seen_yet,
+    read_again,
+)
 from scribe.words.links import followed
 from scribe.words.status import Stop
 
 from conftest import Answers, wait
+from reader import PATIENCE_SECONDS
 
 
 def _paste(desk: Desk, text: str) -> None:
@@ -178,6 +189,8 @@ def test_a_new_paragraph_of_blanks_alone_is_not_put_into_the_book(
     desk.window.print.setPlainText(typed)
     desk.act("keep")
     assert desk.new is None and _prints(desk) == before
+    said = "This paragraph was empty, and wasn't added."
+    assert desk.window.message.text == said
 
 
 def test_a_line_end_from_elsewhere_is_a_blank(desk: Desk) -> None:
@@ -211,6 +224,80 @@ def test_a_file_that_is_dropped_is_imported(
     desk.window.dropEvent(drop)
     assert wait(application, 60, lambda: imported == [text, text])
     assert len(_prints(desk)) == 5
+
+
+@pytest.mark.parametrize(
+    "answer, typed, said",
+    [
+        (0, ["One.", "Two."], "2 paragraphs typed, numbers 4 to 5, by the table en."),
+        (1, [], "The rest of text.txt is left out. What is in the book stays there."),
+    ],
+)
+def test_a_text_that_was_changed_since_its_import_was_cut_short_is_asked_about(
+    desk: Desk,
+    given: Answers,
+    tmp_path: Path,
+    answer: int,
+    typed: list[str],
+    said: str,
+) -> None:
+    (text := tmp_path / "text.txt").write_text("One.\n\nTwo.\n")
+    Drafts(desk.path).begin_import(
+        ImportNote(str(text), "0" * 64, False, 1, 9, "en", "end", 2, 1)
+    )
+    Actions(desk).offer()
+    asked = (
+        f"The import of text.txt was cut short, and {text} was changed since. So how much of it is in"
+        " the book can't be seen: the book had 1 paragraph before, and the text 9."
+    )
+    assert desk.window.message.text == (
+        f"{asked} Ctrl+I and the name of that file ask what is done."
+    )
+    given["choices"] = [answer]
+    desk.acting(lambda: Files(desk).imported(text))
+    assert given["said"][0] == (
+        f"{asked} Shall all of the text be typed, also what may be there already?"
+    )
+    assert desk.window.message.text == said
+    assert _prints(desk) == ["The Moon", *typed, *_prints(desk)[1 + len(typed) :]]
+    assert len(_prints(desk)) == 3 + len(typed)
+    assert Drafts(desk.path).imports() == ()
+
+
+def test_what_is_waited_for_is_said_while_a_document_is_read_again_at_the_opening(
+    desk: Desk, tmp_path: Path, monkeypatch: pytest.MonkeyPatch
+) -> None:
+    how = How(ReadingOptions(ManuscriptKind.MARKDOWN))
+    text = str(tmp_path / "tides.md")
+    note = ImportNote(text, "0" * 64, False, 1, 9, "en", "end", 2, 1, how)
+    Drafts(desk.path).begin_import(note)
+    said = set[str]()
+    look = QTimer()
+    look.timeout.connect(lambda: said.add(desk.window.message.text))
+
+    def unfinished(session: Session, book: object, its: ImportNote) -> None:
+        """As pandoc reads what is long."""
+        wait_until = time.monotonic() + PATIENCE_SECONDS
+        while read_again(note) not in said and time.monotonic() < wait_until:
+            time.sleep(0.05)
+        raise NotSeen(its)
+
+    monkeypatch.setattr("braildesk.desk.earlier.unfinished", unfinished)
+    look.start(50)
+    desk.say("Before.")
+    Actions(desk).offer()
+    look.stop()
+    assert read_again(note) in said and WAITING not in said
+    assert (
+        desk.window.message.text == f"Before. {not_seen_yet(NotSeen(note), 'Ctrl+I')}"
+    )
+    # what is waited for next is the program
+    monkeypatch.setattr("scribe.window.worker._LONG_MILLISECONDS", 50)
+    said.clear()
+    look.start(50)
+    desk.asked(lambda: time.sleep(1))
+    look.stop()
+    assert WAITING in said
 
 
 def test_a_file_that_is_dropped_while_something_else_is_done_is_said_to_be_left(
@@ -287,6 +374,69 @@ def test_of_a_new_paragraph_it_is_said_that_enter_keeps_it_once_something_is_typ
     assert here.text.endswith(empty)
     desk.act("keep")
     assert (desk.new, len(desk.contents.paragraphs)) == (None, 3)
+
+
+@pytest.fixture
+def empty(application: QApplication, tmp_path: Path) -> Iterator[Desk]:
+    """A book of two tables and no paragraph, at work."""
+    own = requests.Table("a", b"space \\s 0\nletter a 1\n")
+    new_book(book := tmp_path / "empty.braildesk", holding=[own, requests.Supply("en")])
+    found = Desk(book, None, 0.0, PageSize())
+    found.acts = Actions(found).by_name
+    found.begin()
+    yield found
+    found.close()
+
+
+@pytest.mark.parametrize("name", ["en", "ueb"])
+def test_a_table_that_is_chosen_in_a_book_without_paragraphs_is_that_of_new_ones(
+    empty: Desk, given: Answers, name: str
+) -> None:
+    given["one_of"] = name
+    empty.act("table")
+    said = f"New paragraphs have the table {name}. Ctrl+Enter begins the first one."
+    assert empty.window.message.text == said
+    empty.act("new_after")
+    head = f"A new paragraph at the end of the book, table {name}"
+    assert empty.window.print_label.text() == head
+    empty.window.print.insertPlainText("It rose.")
+    empty.act("keep")
+    assert [each.table for each in empty.contents.paragraphs] == [name]
+    # from now on it is that of the chosen paragraph
+    given["one_of"] = "a"
+    empty.window.print.insertPlainText("a")
+    empty.act("table")
+    assert [each.table for each in empty.contents.paragraphs] == [name, "a"]
+    assert empty.table_of_new() == "a"
+
+
+@pytest.mark.parametrize("typed", ["It rose.", ""])
+@pytest.mark.parametrize("name", ["en", "ueb"])
+def test_a_first_paragraph_is_given_a_table_while_it_is_typed(
+    empty: Desk, given: Answers, application: QApplication, typed: str, name: str
+) -> None:
+    empty.act("new_after")
+    field, window = empty.window.print, empty.window
+    field.insertPlainText(typed)
+    if typed:
+        empty.act("keep")
+        assert window.message.text.startswith("The table a has no cells for “I”")
+    field.put_caret(2)
+    given["one_of"] = name
+    empty.act("table")
+    assert window.message.text == f"New paragraphs have the table {name}."
+    head = f"A new paragraph at the end of the book, table {name}"
+    assert (window.print_label.text(), field.text) == (head, typed)
+    assert field.place == min(2, len(typed))
+    waiting = empty.draft()
+    assert empty.is_waiting() and (waiting.table if waiting else "") == name * bool(
+        typed
+    )
+    assert wait(application, 9, lambda: bool(window.cells.text) == bool(typed))
+    assert "no cells" not in window.here.text
+    empty.act("keep")
+    assert [each.table for each in empty.contents.paragraphs] == [name] * bool(typed)
+    assert _prints(empty) == [typed] * bool(typed)
 
 
 @pytest.mark.parametrize(
@@ -466,6 +616,20 @@ def test_what_is_typed_stays_what_it_is_where_cells_are_shown_otherwise(
     desk.window.cells.select(Span(1, 2))
     desk.act("copy_ascii")
     assert desk.window.message.text == "Copied in Braille ASCII: 1 cell."
+
+
+@pytest.mark.parametrize("act", ["copy_unicode", "copy_ascii"])
+@pytest.mark.parametrize("typed", ["", "#"])
+def test_where_no_cells_are_nothing_is_copied(desk: Desk, act: str, typed: str) -> None:
+    clipboard = QApplication.clipboard()
+    assert clipboard is not None
+    clipboard.setText("moon")
+    desk.act("new_after")
+    desk.window.print.insertPlainText(typed)
+    desk.act(act)
+    assert desk.window.message.text == "There are no cells here, so nothing was copied."
+    assert clipboard.text() == "moon"
+    desk.act("give_up")
 
 
 def test_no_page_is_shown_of_a_book_that_was_changed_meanwhile(

@@ -70,6 +70,30 @@ def test_a_text_is_imported_and_taken_back(
         ]
 
 
+@pytest.mark.parametrize(
+    "key, role, name", [("F5", "table", "Paragraphs"), ("F2", "text", "Print")]
+)
+def test_what_came_of_an_import_is_told_where_the_focus_is_once_its_report_is_closed(
+    moon: Path, at: Open, tmp_path: Path, key: str, role: str, name: str
+) -> None:
+    text = tmp_path / "tides.txt"
+    text.write_text("One.\n\nTwo.\n", encoding="utf-8")
+    window = at(moon)
+    window.press(key)
+    window.focus(role, name)
+    window.press("Ctrl+i")
+    _name(window, "Import a text", text, "Open")
+    said = "2 paragraphs typed, numbers 4 to 5, by the table en."
+    _close(window, "Import", said)
+    window.focus(role, name)
+
+    def is_told() -> bool:
+        about = window.part(role, name).get_description()
+        return said in (window.about(0) if role == "table" else [about])
+
+    window.until("what came of it", is_told)
+
+
 def test_the_volumes_are_exported_as_they_are_shown(
     moon: Path, at: Open, tmp_path: Path
 ) -> None:

@@ -14,6 +14,8 @@ from reader import (
     EDITABLE,
     FOCUS,
     FOCUSABLE,
+    INSERTED,
+    SELECTION,
     Part,
     Reader,
     all_within,
@@ -59,6 +61,11 @@ def _field(part: Part) -> list[str]:
     return [*found, _ended(about)] if about else found
 
 
+def _spoken(window: Reader) -> str:
+    """What is spoken where the focus stays, without what has Orca not say that it is selected."""
+    return window.text_in(window.part("text", "Spoken", window.top)).rstrip("\ufffc")
+
+
 @pytest.fixture
 def window(moon: Path, at: Open) -> Reader:
     """The book of the steps, in a window that has just been opened."""
@@ -97,8 +104,9 @@ def test_at_a_mark_at_a_correction_and_at_a_refusal(window: Reader) -> None:
     window.reads("Print", "The moon is far away.")
     window.press("Return")
     window.says("Kept")
-    # Orca speaks of no change where the focus is, so that F6 reads it
-    assert SAID["Enter keeps it"] == ["return"]
+    kept = window.text("Message")
+    assert _spoken(window) == kept
+    assert SAID["Enter keeps it"] == ["return", kept]
     window.press("F6")
     window.focus("text", "Message")
     assert SAID["F6 to the message"] == _field(message)
@@ -202,3 +210,141 @@ def test_no_row_is_told_to_have_the_focus_while_another_part_has_it(
     window.press("F5")
     # the row is told once the table has the focus
     window.until("the row", lambda: (FOCUS, "The mon is far away.") in heard)
+
+
+def test_what_is_said_or_shown_where_the_print_keeps_the_focus_is_spoken_once(
+    window: Reader, heard: list[tuple[str, str]]
+) -> None:
+    window.press("F2")
+    window.until("the focus on the print", lambda: (FOCUS, "Print") in heard)
+    print_, mark = "The mon is far away.", "Mark 1, open, on “mon”: spelled so?"
+    new = "A new paragraph after paragraph 1, table en"
+    steps = (
+        ("Ctrl+Return", new),
+        ("Escape", "The Moon. This paragraph was empty, and wasn't added."),
+        ("Ctrl+Return", new),
+        # what comes into the print after Enter is read by itself
+        ("Return", "This paragraph was empty, and wasn't added."),
+        ("F4", f"{print_} {mark}"),
+        ("F4", f"The book has no other open mark. {mark}"),
+    )
+    for key, said in steps:
+        heard.clear()
+        window.press(key)
+        window.until(said, lambda: _spoken(window) == said)
+        window.until("it", lambda: (SELECTION, "Spoken") in heard)
+        assert heard.count((SELECTION, "Spoken")) == 1
+        # the focus is nowhere else in the meantime, and a display has the print
+        assert FOCUS not in [kind for kind, _ in heard]
+        if said != new:
+            window.until("the print", lambda: (SELECTION, "Print") in heard)
+            assert window.selected("Print") == ""
+
+
+def test_a_new_paragraph_is_spoken_before_the_text_that_was_given_up_for_it(
+    window: Reader,
+) -> None:
+    window.press("F2")
+    window.focus("text", "Print")
+    window.press("F4")
+    window.says("Mark 1")
+    window.caret("Print", 4)
+    window.type("x")
+    window.reads("Print", "The xmon is far away.")
+    window.press("Ctrl+z")
+    window.reads("Print", "The mon is far away.")
+    window.press("Ctrl+Return")
+    new = "A new paragraph after paragraph 2, table en"
+    aside = "What was typed and taken back is set aside: “The xmon is far away.”."
+    said = f"{new}. {aside} Ctrl+B brings it back."
+    window.until(said, lambda: _spoken(window) == said)
+    assert window.text("Message") == f"{aside} Ctrl+B brings it back."
+
+
+def test_what_is_said_where_the_print_takes_the_focus_is_not_spoken_besides(
+    window: Reader, heard: list[tuple[str, str]]
+) -> None:
+    window.press("F4")
+    window.says("Mark 1")
+    window.press("Ctrl+f")
+    window.dialog("Find")
+    window.type("sea")
+    window.press("Return")
+    window.no_dialog()
+    window.says("Paragraph 3")
+    window.choose("Marks", "Next open mark")
+    window.says("Mark 1")
+    window.press("F8", "F2")
+    window.until("the focus on the print", lambda: heard[-1:] == [(FOCUS, "Print")])
+    assert (SELECTION, "Spoken") not in heard
+
+
+def test_the_focus_is_in_the_menus_from_their_key_on_until_an_action_is_done(
+    window: Reader, heard: list[tuple[str, str]]
+) -> None:
+    window.press("F2")
+    window.focus("text", "Print")
+    window.press("F4")
+    window.says("Mark 1")
+    window.press("Ctrl+r")
+    window.says("Kept")
+    heard.clear()
+    for key, first in (
+        ("F10", "Import a text…"),
+        ("Right", "Take back"),
+        ("Right", "New paragraph after"),
+        ("Left", "Take back"),
+    ):
+        window.press(key)
+        window.until(first, lambda: heard[-1:] == [(FOCUS, first)])
+    assert (FOCUS, "Print") not in heard
+    window.press("Return")
+    window.until("the focus on the print", lambda: (FOCUS, "Print") in heard)
+    window.says("Taken back: mark 1 was resolved.")
+    its = window.part("text", "Print").get_description()
+    assert its == window.text("Message")
+
+
+def test_the_print_has_a_text_that_is_brought_back_before_it_takes_the_focus(
+    moon: Path, at: Open
+) -> None:
+    with hearing((FOCUS, INSERTED)) as heard:
+        window = at(moon)
+        window.press("Ctrl+Return")
+        window.focus("text", "Print")
+        window.type("so")
+        window.reads("Print", "so")
+        window.press("Escape")
+        window.says("Ctrl+B brings it back.")
+        window.press("F5")
+        window.focus("table", "Paragraphs")
+        heard.clear()
+        window.press("Ctrl+Shift+B")
+        window.until("the focus", lambda: (FOCUS, "Print") in heard)
+        window.until("the text", lambda: (INSERTED, "Print") in heard)
+        window.says("All that was typed last")
+    of_print = [kind for kind, name in heard if name == "Print"]
+    assert of_print == [INSERTED, FOCUS]
+
+
+def test_what_is_spoken_stays_until_something_else_is_said(window: Reader) -> None:
+    window.press("F2")
+    window.focus("text", "Print")
+    window.press("F4", "Escape")
+    window.says("Mark 1")
+    # there is nothing to give up, and nothing is said of that
+    window.caret("Print", 4)
+    window.type("x")
+    window.reads("Print", "The xmon is far away.")
+    said = f"The mon is far away. {window.text('Message')}"
+    window.until(said, lambda: _spoken(window) == said)
+
+
+def test_a_letter_goes_into_the_print_at_once_after_what_is_spoken(
+    window: Reader,
+) -> None:
+    window.press("F2")
+    window.focus("text", "Print")
+    window.press("F4")
+    window.type("oo")
+    window.reads("Print", "The oomon is far away.")

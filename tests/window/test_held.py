@@ -239,9 +239,7 @@ def test_what_is_typed_in_no_text_while_the_window_waits_is_set_aside(
     else:
         kill_both(window, program)
     again = at(moon)
-    again.says(
-        "What came while braildesk didn't answer is set aside: “oThe sun rose.”."
-    )
+    again.says("What was typed while scribe was busy is set aside: “oThe sun rose.”.")
     assert [each.text for each in Drafts(moon).given_up()] == ["oThe sun rose."]
 
 
@@ -269,7 +267,7 @@ def test_what_is_typed_before_a_dialog_opens_is_no_answer_to_it(
     window.no_dialog()
     window.reads(
         "Message",
-        "Kept: mark 2. What came while braildesk didn't answer is set aside: “It set.”. Ctrl+B brings"
+        "Kept: mark 2. What was typed while scribe was busy is set aside: “It set.”. Ctrl+B brings"
         " it back.",
     )
     assert prints_after(window, moon)[0] == "The Moon"
@@ -304,7 +302,7 @@ def test_what_is_pressed_after_the_key_that_closes_does_nothing_and_its_text_is_
         assert (session.print_of(1), first.struck) == ("A The Moon", False)
     again = at(moon)
     again.says(
-        "What came while braildesk didn't answer is set aside: “It set.”. Ctrl+B brings it back."
+        "What was typed while scribe was busy is set aside: “It set.”. Ctrl+B brings it back."
     )
 
 

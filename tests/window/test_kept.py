@@ -148,7 +148,7 @@ def test_a_text_that_is_typed_at_an_offer_is_no_answer_to_it_and_is_set_aside(
     window.no_dialog()
     window.opened()
     if end is not None:
-        is_typed = "What was typed at the question is set aside"
+        is_typed = "What was typed where no text was asked for is set aside"
         window.says(f"{is_typed}: “{text}”. Ctrl+B brings it back.")
     window.reads("Print", "The Moon rose.")
     assert [each.text for each in Drafts(moon).given_up()] == [text]

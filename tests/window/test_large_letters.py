@@ -19,7 +19,7 @@ from PyQt6.QtWidgets import (
 
 from braildesk import Paragraph, Style
 
-from scribe.window import dialogs
+from scribe.window import dialogs, fitted
 from scribe.window.fields import Field
 from scribe.window.menus import MENUS
 from scribe.window.paragraphs import WORDS
@@ -211,9 +211,9 @@ def test_a_dialog_is_whole_on_the_screen(
     assert screen is not None
     room = screen.availableSize()
     if is_low:
-        width, height = dialogs._LESS_FOR_FRAME
+        width, height = fitted._LESS_FOR_FRAME
         its = width - room.width() + LOW.width(), height - room.height() + LOW.height()
-        monkeypatch.setattr(dialogs, "_LESS_FOR_FRAME", its)
+        monkeypatch.setattr(fitted, "_LESS_FOR_FRAME", its)
         room = LOW
     over = QWidget()
     found: list[tuple[QSize, list[str]]] = []

@@ -7,7 +7,7 @@ from PyQt6.QtCore import QMessageLogContext, QtMsgType, qInstallMessageHandler
 from PyQt6.QtWidgets import QApplication
 
 from scribe.window.desk import Desk
-from scribe.window.fields import characters, lines_of, units
+from scribe.window.fields import Field, characters, lines_of, units
 
 from conftest import wait
 
@@ -85,3 +85,24 @@ def test_no_caret_is_put_beyond_the_braille_of_what_was_typed_and_is_taken_back(
     desk.act("take_back")
     assert (field.text, len(cells.text)) == ("The Moon", 10)
     assert [each for each in warned if "out of range" in each] == []
+
+
+def test_no_caret_is_put_beyond_an_empty_text_that_a_display_shows_again(
+    application: QApplication, warned: list[str]
+) -> None:
+    field = Field("Print", False)
+    field.show_on_display()
+    assert (field.place, warned) == (0, [])
+
+
+def test_a_text_of_several_lines_is_not_shown_again_where_it_stands(
+    application: QApplication,
+) -> None:
+    field, shown = Field("Marks", True), []
+    field.textChanged.connect(lambda: shown.append(field.text))
+    field.show_text("Mark 1\nMark 2")
+    field.put_caret(7)
+    for text in ("Mark 1\nMark 2", "Mark 1\nMark 3"):
+        field.show_text(text)
+        assert field.place == (7 if text.endswith("2") else 0)
+    assert shown == ["Mark 1\u2029Mark 2", "Mark 1\u2029Mark 3"]

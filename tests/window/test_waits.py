@@ -614,6 +614,30 @@ def test_words_whose_change_was_cut_short_are_asked_about_until_all_are_changed_
         assert Drafts(desk.path).changes() == ()
 
 
+def test_words_are_not_asked_about_again_once_all_that_was_changed_is_taken_back(
+    opened: Opened, given: Answers
+) -> None:
+    given["fields"] = ["o", "oo"], [False, False]
+    for choices, left in (([0, 0], 0), ([0], 1)):
+        given["choices"] = choices
+        with opened("3 read") as desk:
+            desk.act("change_all")
+            assert len(Drafts(desk.path).changes()) == 1
+            if not left:
+                desk.act("take_back")
+                assert desk.window.message.text == (
+                    "Taken back: “o” was replaced in 2 places."
+                )
+            assert len(Drafts(desk.path).changes()) == left
+    # what was changed before that stays changed, and is asked about
+    given["choices"] = [0, 0]
+    with opened("2 read") as desk:
+        desk.acting(Actions(desk).offer)
+        desk.act("take_back")
+        assert desk.window.message.text == "Taken back: “o” was replaced in 1 place."
+        assert len(Drafts(desk.path).changes()) == 1
+
+
 def test_of_many_that_are_taken_back_once_the_session_ended_meanwhile_none_is_twice(
     opened: Opened, monkeypatch: pytest.MonkeyPatch
 ) -> None:

@@ -44,6 +44,7 @@ def test_words_are_changed_everywhere_and_that_is_taken_back(
         "“a” would be changed in 1 place of 1 paragraph, unless the book refuses a place."
         " The first one:\n\nPlace 1 of 1"
     )
+    assert given["by_enter"] == "Change &all"
     assert prints_of(desk)[2] == "Twice one day the sea comes up."
     said = (
         "“a” was replaced by “one” in 1 place of 1 paragraph. The book is at version 6."
@@ -61,6 +62,11 @@ def test_words_that_were_taken_out_are_not_said_to_be_replaced(
     given["fields"] = ["Twice ", ""], [False, False]
     given["choices"] = [0]
     desk.act("change_all")
+    assert given["said"][0].startswith(
+        "“Twice ” would be taken out of 1 place of 1 paragraph, unless the book refuses a place."
+    )
+    # Enter may have come to these words by who meant that others be asked for
+    assert given["by_enter"] == "&Cancel"
     assert prints_of(desk)[2] == "a day the sea comes up."
     desk.act("take_back")
     assert desk.window.message.text == "Taken back: “Twice ” was taken out of 1 place."
@@ -583,6 +589,12 @@ def test_page_and_line_are_said_of_what_is_gone_to(desk: Desk, given: Answers) -
     assert desk.window.message.text == "Now F4, Ctrl+F and F3 say no page and line."
     desk.act("find_next")
     assert desk.window.message.text == "“day” stands nowhere else in the book."
+    # a note need not end with a stop
+    desk.act("pages_said")
+    desk.do(requests.Mark(3, 0, 1, "hour"))
+    desk.act("last_mark")
+    mark = "Mark 2, open, on “T”: hour."
+    assert desk.window.message.text == f"{mark} Volume 2, page 1 line 1."
 
 
 def test_a_proof_says_how_many_open_marks_are_on_none_of_its_pages(

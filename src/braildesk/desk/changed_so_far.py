@@ -67,6 +67,16 @@ def left_open(session: Session, drafts: Drafts) -> list[tuple[ChangeNote, Places
     return found
 
 
+def end_taken_back(session: Session, drafts: Drafts, wanted: Replacement) -> None:
+    """Takes away what is noted of words of which no place is changed any more: all were taken back."""
+    for note, places in _noted_now(session, drafts):
+        is_seen = len(places) == len(note.places)
+        is_changed = any(became is Became.CHANGED for _, became in places)
+        if note.is_of(wanted) and is_seen and not is_changed:
+            with suppress(NotKept):
+                drafts.drop_change(note)
+
+
 def _noted_now(
     session: Session, drafts: Drafts
 ) -> Iterator[tuple[ChangeNote, PlacesNow]]:

@@ -138,7 +138,7 @@ class Unread(Value):
     """Text that came while nothing could be done with it.
 
     Some of it is lines after those of the text that waits, and the rest a text by itself. Both may
-    be nothing. It may have been typed where something was asked.
+    be nothing. It may have been typed where no text was asked for: at a question, or at lines to be read.
     """
 
     lines: str

@@ -9,7 +9,7 @@ import json
 import os
 from collections.abc import Callable, Mapping, Sequence
 from contextlib import suppress
-from dataclasses import asdict, dataclass
+from dataclasses import asdict, dataclass, replace
 from enum import Enum
 from itertools import chain, count
 from pathlib import Path
@@ -48,6 +48,8 @@ except ImportError:
 MOST_GIVEN_UP = 10
 #: How many lines that were broken off are kept for a book beside those that were broken off last.
 MOST_LINES = 10
+#: How many characters are kept of what was typed last.
+MOST_TYPED_LAST = 10_000
 _Kept = TypeVar("_Kept")
 
 
@@ -67,17 +69,22 @@ class Begun(Enum):
     LINES = "lines"
     CHANGES = "changes"
     BACK = "back"
+    TYPED_LAST = "typed-last"
 
 
 @dataclass(frozen=True, eq=False, repr=False)
 class LeftAt(Value):
-    """Where a book was left: the character or the cell of the cursor, and how the screen was."""
+    """Where a book was left: the character or the cell of the cursor, and how the screen was.
+
+    The book was at a version then, which a scribe of before didn't note.
+    """
 
     paragraph: int
     place: int
     is_in_cells: bool = False
     is_quiet: bool = False
     has_dots: bool = False
+    version: int | None = None
 
 
 class NotKept(Problem):
@@ -205,9 +212,15 @@ class Drafts:
         """Where the book was left, none if that isn't known; what can't be read is no fault."""
         try:
             data = self._folder.read(self._name(Begun.LEFT_AT))
-            return None if data is None else _left_at_in(Record.of(data))
+            if data is None:
+                return None
+            kept = Record.of(data)
+            found, identity = _left_at_in(kept), identity_of(self.book)
         except (NotSuch, OSError):
             return None
+        # in another file the same version may be of something else
+        is_its = identity is not None and identity.is_in(kept)
+        return found if is_its else replace(found, version=None)
 
     def leave_at(self, place: LeftAt) -> None:
         """Keeps where the book is left; where that can't be kept, it isn't known where it was."""
@@ -232,6 +245,19 @@ class Drafts:
             self._write(Begun.CUT, {"text": written(text)})
         else:
             self._remove(Begun.CUT)
+
+    def typed_last(self) -> str:
+        """What keys typed last, whatever became of it; what can't be read is no fault."""
+        try:
+            data = self._folder.read(self._name(Begun.TYPED_LAST))
+            text = "" if data is None else Record.of(data).text("text")
+            return text[-MOST_TYPED_LAST:]
+        except (NotSuch, OSError):
+            return ""
+
+    def keep_typed_last(self, text: str) -> None:
+        """Keeps what keys typed last, in place of what was."""
+        self._write(Begun.TYPED_LAST, {"text": written(text)})
 
     def unread(self) -> Unread | None:
         """What came while nothing could be done with it, none if nothing did."""
@@ -395,6 +421,8 @@ class Drafts:
             # what can't be taken over stays where it is
             with suppress(NotSuch, OSError, NotKept):
                 self._adopt_texts(what)
+        with suppress(NotSuch, OSError):
+            self._adopt_typed_last()
         beside = self.book.name + "-unsent"
         try:
             with opened(self.book.parent) as folder:
@@ -475,6 +503,30 @@ class Drafts:
         for each in sorted(texts, key=lambda its: -(its.left or 0)):
             whole.setdefault(each.known_by, each)
         self._write(what, {"texts": [each.values() for each in whole.values()]})
+
+    def _adopt_typed_last(self) -> None:
+        """Takes over what was typed last for this book, where that of another one was kept for its path before.
+
+        That stays, too, for a book that was moved away from here, by a name that no path has.
+        """
+        what = Begun.TYPED_LAST
+        identity, its = identity_of(self.book), self._name(what)
+        data = self._folder.read(its)
+        if identity is None or data is None or identity.is_in(Record.of(data)):
+            return
+        aside = sha256(os.fsencode(self.book) + b"\0").hexdigest()[:32]
+        own = [
+            name
+            for name in self._folder.names()
+            if name != its and name.partition(".")[2] == what.value
+            if self._is_of(name, identity, is_open=True)
+        ]
+        # one for each path
+        self._folder.write(f"{aside}.{what.value}", data)
+        for name in own[:1]:
+            self._folder.rename(name, its)
+        for name in own[1:]:
+            self._folder.remove(name)
 
     def adopt_if(self, is_of_book: Callable[[Draft], bool]) -> None:
         """Takes over a text that waits for a book which isn't at its path any more, if none waits here.
@@ -651,6 +703,7 @@ def _left_at_in(kept: Record) -> LeftAt:
         kept.truth("is_in_cells"),
         kept.truth("is_quiet"),
         kept.truth("has_dots"),
+        kept.number_or_none("version"),
     )
 
 

@@ -11,6 +11,7 @@ from braildesk.desk.import_note import ImportNote
 from braildesk.desk.intake import NotImported
 from braildesk.desk.manuscripts import read_bytes
 from braildesk.desk.unfinished import NotSeen, Unfinished, digest_of, unfinished
+from braildesk.workshop import OthersLink
 
 
 class Way(Enum):
@@ -69,11 +70,21 @@ class PartIsThere(Undecided):
         self.note = its.note
 
 
+class PartUnseen(Undecided):
+    """It can't be seen how much of a text is in the book, by an import that was cut short."""
+
+    def __init__(self, fault: NotSeen) -> None:
+        super().__init__(fault)
+        self.fault = fault
+        self.way = Way.AGAIN
+        self.note = fault.note
+
+
 def leave(book: Path, path: Path) -> None:
     """Forgets an import of a text that was cut short; raises `NoneCutShort`."""
     try:
         data = read_bytes(path)
-    except OSError:
+    except (OSError, OthersLink):
         data = b""
     drafts = Drafts(book)
     note = note_of_text(drafts.imports(), path, digest_of(data))

@@ -20,7 +20,7 @@ from braildesk.held import held, is_at_path, open_file
 from braildesk.named_files import read_file_there
 from braildesk.opening import waited
 from braildesk.protocol.asked import BookFile
-from braildesk.workshop import Swapped
+from braildesk.workshop import OthersLink, Place, Swapped, own_path, place_of
 
 # how often the volumes are read until all are of one version
 TRIES = 3
@@ -106,13 +106,16 @@ class Differences:
     @classmethod
     def of(cls, older: bytes, newer: bytes) -> "Differences":
         """What differs between two files of pages."""
-        before, now = _parted(older), _parted(newer)
+        now = _parted(newer)
+        # somebody else may have put a file of any number of pages there
+        before = _parted(older, len(now))
         pages = tuple(
             number
             for number, page in enumerate(now, 1)
             if number > len(before) or before[number - 1] != page
         )
-        return cls(pages, len(now), len(before))
+        has_rest = bool(older) and not older.endswith(b"\f")
+        return cls(pages, len(now), older.count(b"\f") + has_rest)
 
 
 @dataclass(frozen=True)
@@ -177,9 +180,12 @@ class BookChanges(Problem):
 
 
 class NoFolder(Problem):
-    """The folder of the volumes isn't one and can't be made, by its cause; none was written."""
+    """The folder of the volumes isn't one and can't be made, by its cause; none was written.
 
-    def __init__(self, folder: Path, cause: OSError | ValueError) -> None:
+    Nor is one taken to which a link of another user leads.
+    """
+
+    def __init__(self, folder: Path, cause: OSError | ValueError | OthersLink) -> None:
         super().__init__(folder, cause)
         self.folder = folder
         self.cause = cause
@@ -311,37 +317,46 @@ class Export:
         """Makes the folder of the files, which goes again if none was written; raises `NoFolder`."""
         is_new = self.make_folder()
         try:
-            with self._held_folder(is_new):
+            with self._held_folder():
                 yield
         finally:
             if is_new:
                 # a folder with anything in it isn't removed by that
-                with suppress(OSError):
-                    self.job.folder.rmdir()
+                with suppress(OSError, OthersLink), self._place() as place:
+                    os.rmdir(place.name, dir_fd=place.folder)
 
     def make_folder(self) -> bool:
         """Makes the folder of the files, and says whether it wasn't there; raises `NoFolder`."""
         try:
-            with suppress(FileExistsError):
-                self.job.folder.mkdir()
-                return True
-            self.job.folder.mkdir(exist_ok=True)
-            return False
-        except (OSError, ValueError) as cause:
+            with self._place() as place:
+                os.mkdir(place.name, dir_fd=place.folder)
+            return True
+        except FileExistsError as cause:
+            if self.job.folder.is_dir():
+                return False
+            raise NoFolder(self.job.folder, cause) from cause
+        except (OSError, ValueError, OthersLink) as cause:
             raise NoFolder(self.job.folder, cause) from cause
 
     @contextmanager
-    def _held_folder(self, is_new: bool) -> Iterator[None]:
+    def _place(self) -> Iterator[Place]:
+        """The place of the folder of the files, to which links of this user and of root alone lead."""
+        above, name = os.path.split(os.fspath(self.job.folder))
+        with place_of(os.path.join(own_path(above), name or ".")) as place:
+            yield place
+
+    @contextmanager
+    def _held_folder(self) -> Iterator[None]:
         """Holds the folder of the files open; raises `NoFolder`.
 
         Where others may rename it they may put any other of this user in its place, or a link to one. No
-        link is followed that was put in the place of a new one.
+        link of theirs is followed, whenever they put it there.
         """
-        flags = os.O_PATH | os.O_DIRECTORY | os.O_CLOEXEC
         try:
-            more = os.O_NOFOLLOW if is_new else 0
-            self._folder = os.open(self.job.folder, flags | more)
-        except OSError as cause:
+            path = own_path(os.fspath(self.job.folder))
+            with place_of(os.path.join(path, "")) as place:
+                self._folder = os.dup(place.folder)
+        except (OSError, OthersLink) as cause:
             raise NoFolder(self.job.folder, cause) from cause
         try:
             yield
@@ -474,10 +489,11 @@ def _pages_of(job: Job, volume: int, check: Callable[[], None] = lambda: None) -
     return export(job.read_at, volume, *sizes, timeout=job.wait, while_waiting=check)
 
 
-def _parted(pages: bytes) -> list[bytes]:
-    """The pages of a file, each with the form feed that ends it."""
-    *whole, rest = pages.split(b"\f")
-    return [page + b"\f" for page in whole] + ([rest] if rest else [])
+def _parted(pages: bytes, most: int = -1) -> list[bytes]:
+    """The pages of a file, or so many of them, each with the form feed that ends it."""
+    *whole, rest = pages.split(b"\f", most)
+    found = [page + b"\f" for page in whole]
+    return [*found, rest] if rest and len(found) != most else found
 
 
 def _read(name: str, folder: int) -> bytes | None:

@@ -17,6 +17,7 @@ from braildesk.desk.earlier import (
     AllThere,
     NoneCutShort,
     PartIsThere,
+    PartUnseen,
     StandsThere,
     Way,
     note_of_text,
@@ -36,13 +37,14 @@ from braildesk.desk.manuscripts import Taken, read_bytes, taken
 from braildesk.desk.origin import came_from, standing
 from braildesk.desk.replacements import read_replacements
 from braildesk.desk.typist import CutShort, look_for, type_all
-from braildesk.desk.unfinished import digest_of, unfinished
+from braildesk.desk.unfinished import NotSeen, digest_of, unfinished
 from braildesk.desk.validation import are_plain, faults
 from braildesk.named_files import is_handed_over
 from braildesk.protocol.value import Value
 from braildesk.session import HeldFile, session_beside
 from braildesk.text import limits
 from braildesk.text.characters import characters_in
+from braildesk.workshop import OthersLink
 
 
 if TYPE_CHECKING:
@@ -105,9 +107,9 @@ class TypedText(Value):
 
 
 class CantRead(NotImported):
-    """The file of the text can't be read."""
+    """The file of the text can't be read, or isn't, since a link of another user leads to it."""
 
-    def __init__(self, path: Path, cause: OSError) -> None:
+    def __init__(self, path: Path, cause: OSError | OthersLink) -> None:
         super().__init__(path, cause)
         self.path = path
         self.cause = cause
@@ -423,7 +425,10 @@ class Importer:
         if job.way is Way.AGAIN or job.line is not None:
             return job
         with opened() as session:
-            its = unfinished(session, session.paragraphs(), note)
+            try:
+                its = unfinished(session, session.paragraphs(), note)
+            except NotSeen as fault:
+                raise PartUnseen(fault) from fault
         if job.way is Way.GO_ON:
             if not its.has_before:
                 raise NoneCutShort(job.text)
@@ -440,7 +445,7 @@ def bytes_of(path: Path) -> bytes:
     """The bytes of a manuscript; raises `CantRead`."""
     try:
         return read_bytes(path)
-    except OSError as cause:
+    except (OSError, OthersLink) as cause:
         raise CantRead(path, cause) from cause
 
 

@@ -28,11 +28,12 @@ class LineWithin(NotImported):
 
 
 class NoLine(NotImported):
-    """The text has no paragraph from a line on."""
+    """The text, which has these paragraphs, has none from a line on."""
 
-    def __init__(self, line: int) -> None:
-        super().__init__(line)
+    def __init__(self, line: int, passages: Sequence[Passage]) -> None:
+        super().__init__(line, passages)
         self.line = line
+        self.passages = passages
 
 
 class NoParagraphBefore(NotImported):
@@ -151,7 +152,7 @@ def parted_at(
             return tuple(passages[:place]), tuple(passages[place:])
         if passage.last_line >= line:
             raise LineWithin(line, passage)
-    raise NoLine(line)
+    raise NoLine(line, passages)
 
 
 def paragraph_before(book: Sequence[Paragraph], after: After) -> Paragraph | None:

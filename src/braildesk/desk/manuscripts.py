@@ -1,11 +1,13 @@
 """Manuscripts of any kind, read as the paragraphs of a book: documents, texts, and books."""
 
+import errno
 import os
 from collections.abc import Callable, Iterator
 from dataclasses import dataclass, replace
 from itertools import takewhile
+from os import fspath
 from pathlib import Path
-from typing import TYPE_CHECKING
+from typing import TYPE_CHECKING, BinaryIO
 
 from braildesk import CannotOpen, Failed, Lost, Session, Style, Why
 from braildesk.desk.documents.kinds import (
@@ -30,17 +32,17 @@ from braildesk.desk.readings import prints
 from braildesk.desk.replacements import Replaced, Replacer
 from braildesk.desk.whole_file import Access
 from braildesk.named_files import (
-    TooLarge,
+    is_descriptor,
     is_handed_over,
     open_file,
     opened,
-    read_file,
     read_opened,
 )
 from braildesk.protocol.sentences import LOOKED_AT_BY_COPY
 from braildesk.protocol.value import Value
 from braildesk.text import limits
 from braildesk.text.characters import shortened
+from braildesk.workshop import OthersLink, own_path, place_of
 
 if TYPE_CHECKING:
     from braildesk.desk.documents.reading import Manuscript
@@ -177,18 +179,39 @@ def _passages_of(
 
 
 def read_bytes(path: Path) -> bytes:
-    """The bytes of a manuscript, of which documents may have more than texts; raises `OSError`."""
+    """The bytes of a manuscript, of which documents may have more than texts.
+
+    Raises `OSError`, and `OthersLink` where a link of another user leads to it.
+    """
+    with _opened_by_own_links(path) as file:
+        most = limits.TEXT_BYTES
+        if not is_handed_over(path) and is_container(_seen(file.fileno())):
+            most = limits.DOCUMENT_BYTES
+        return read_opened(file, path, most)
+
+
+def read_again(path: Path) -> bytes:
+    """The bytes of a manuscript that was read before, never what is handed over now by its name.
+
+    Raises `OSError`, also where a link of another user leads to it.
+    """
     try:
-        return read_file(path, limits.TEXT_BYTES)
-    except TooLarge:
-        if is_handed_over(path) or not is_container(_front(path)):
-            raise
-    return read_file(path, limits.DOCUMENT_BYTES)
+        with place_of(own_path(fspath(path))) as place:
+            file = open_file(place.name or ".", os.O_NOFOLLOW, place.folder)
+    except OthersLink as its:
+        why = f"the link “{its.link}” is another user's"
+        raise OSError(errno.ELOOP, why, fspath(path)) from its
+    with file:
+        return read_opened(file, path, limits.DOCUMENT_BYTES)
 
 
-def _front(path: Path) -> bytes:
-    with open_file(path) as file:
-        return file.read(len(_BOOK))
+def _opened_by_own_links(path: Path) -> BinaryIO:
+    """A manuscript, open for reading, to which no link of another user leads, whenever it is put there."""
+    named = fspath(path)
+    if is_descriptor(path) or "\0" in named:
+        return opened(path)
+    with place_of(own_path(named)) as place:
+        return open_file(place.name or ".", os.O_NOFOLLOW, place.folder)
 
 
 def _seen(file: int) -> bytes:

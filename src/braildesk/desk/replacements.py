@@ -70,7 +70,7 @@ class Replacer:
         from braildesk.desk.documents.reading import plain
 
         made = [
-            replace(part, text=composed(plain(self._sought.sub(self._new, part.text))))
+            replace(part, text=composed(plain(self._replaced(part.text))))
             for part in parts
         ]
         return tuple(part for part in made if part.text)
@@ -85,20 +85,23 @@ class Replacer:
         ]
         return tuple(passage for passage in made if passage.lines)
 
+    def _replaced(self, text: str) -> str:
+        return self._sought.sub(self._new, _as_in_print(text))
+
     def _line(self, line: TextLine) -> TextLine | None:
         """A line with the new characters, none if nothing is left of it."""
         pieces: list[str] = []
         columns: list[int] = []
-        place = 0
-        for found in self._sought.finditer(line.text):
-            pieces += (line.text[place : found.start()], self._new(found))
+        place, its = 0, _as_in_print(line.text)
+        for found in self._sought.finditer(its):
+            pieces += (its[place : found.start()], self._new(found))
             columns += range(place, found.start())
             columns += [found.start()] * len(pieces[-1])
             place = found.end()
         if not place:
             return line
-        pieces.append(line.text[place:])
-        columns += range(place, len(line.text) + 1)
+        pieces.append(its[place:])
+        columns += range(place, len(its) + 1)
         text = "".join(pieces)
         front = len(text) - len(text.lstrip(" "))
         shown = text.strip(" ")
@@ -109,6 +112,13 @@ class Replacer:
     def _new(self, found: re.Match[str]) -> str:
         self._counts[found[0]] += 1
         return self._by[found[0]]
+
+
+def _as_in_print(text: str) -> str:
+    """A text in which each character for which a book has another one, as for U+2126, is that one."""
+    if text.isascii():
+        return text
+    return "".join(its if len(its := composed(each)) == 1 else each for each in text)
 
 
 def read_replacements(path: Path) -> Pairs:

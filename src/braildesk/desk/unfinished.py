@@ -5,16 +5,15 @@ That is seen in the book: the paragraphs that it got since are compared with tho
 
 from collections.abc import Sequence
 from dataclasses import dataclass
+from pathlib import Path
 
 from braildesk import After, Paragraph, Session
 from braildesk.desk.import_note import ImportNote
 from braildesk.desk.intake import NotImported, parted_at, settings
 from braildesk.desk.manuscript import Passage, UnreadableText
-from braildesk.desk.manuscripts import taken
+from braildesk.desk.manuscripts import read_again, taken
 from braildesk.desk.origin import came_from
-from braildesk.named_files import open_file
 from braildesk.protocol.value import Value
-from braildesk.text import limits
 
 
 class NotSeen(NotImported):
@@ -127,9 +126,7 @@ def digest_of(data: bytes) -> str:
 def _parts(note: ImportNote) -> tuple[tuple[Passage, ...], tuple[Passage, ...]]:
     """The paragraphs of the text before those that were to be typed, and those."""
     try:
-        # never what the shell hands over now
-        with open_file(note.text) as file:
-            data = file.read(limits.DOCUMENT_BYTES + 1)
+        data = read_again(Path(note.text))
     except OSError as cause:
         raise NotSeen(note, cause) from cause
     if digest_of(data) != note.digest:

@@ -33,6 +33,7 @@ class Why(StrEnum):
     IN_USE = "in use"
     LINKED = "linked"
     LED_AWAY = "led away"
+    REPLACED = "replaced"
     OTHER_LOG = "log of another"
     LOG_IN_USE = "log in use"
     NO_LOG = "no log"
@@ -201,6 +202,8 @@ UNOPENED = MappingProxyType(
         Why.LED_AWAY: "A link was put in the place of {path}, or on the way to it, after that was first"
         " looked at. It may be another user's, and nothing was opened through it. {nothing} See where"
         " it leads, and who put it there.",
+        Why.REPLACED: "{path} was replaced by another file just as it was opened, or was away for a moment."
+        " {nothing} See which program does that, and try again.",
         Why.OTHER_LOG: "The file {log} isn't that of {path} as it is: {path} is whole without it,"
         " and with it would be damaged or lose what it has. It may be that another file was put in"
         " the place of the book. {nothing} Keep both files; to go on with {path} as it"

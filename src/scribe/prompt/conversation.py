@@ -46,7 +46,7 @@ class Conversation:
     commands: Collection[str]
     #: Where lines are shown, none of them over its width.
     console: Console
-    #: The proofreader whose name corrections keep.
+    #: The proofreader whose name the corrections of `change` keep.
     by: str | None = None
     #: Whether questions are asked in a word or two.
     is_short: bool = False

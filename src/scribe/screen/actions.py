@@ -231,6 +231,11 @@ class BringBack:
 
 
 @dataclass(frozen=True)
+class BringTyped:
+    """Begins a new paragraph with all that keys typed last."""
+
+
+@dataclass(frozen=True)
 class PutBy:
     """Keeps a text that was pasted where nothing is typed, or came as keys, or as the last of them."""
 
@@ -269,6 +274,7 @@ Action = (
     | GiveUp
     | PutOff
     | BringBack
+    | BringTyped
     | PutBy
     | OpenAgain
     | Quit

@@ -17,8 +17,7 @@ from scribe.screen.field import Cut, Field, Purpose
 from scribe.screen.state import Pane, Question, State
 from scribe.words.change_all import cut_short
 from scribe.words.drafts import Unsent, not_kept, words_wait
-from scribe.words.import_text import came_to, not_seen
-from scribe.words.paragraph import quoted
+from scribe.words.import_text import came_to, not_seen_yet
 
 SHOWS_KEYS = "? shows the keys."
 _OPENED_THERE = "The book is open where it was left. "
@@ -26,7 +25,10 @@ _GOES_ON = "c and the same words go on."
 
 
 def where_left(drafts: Drafts, state: State) -> State:
-    """The state at the place where the book was left, if that is there still."""
+    """The state at the place where the book was left, if that is there still.
+
+    It is said if the book wasn't changed since, by which something else may stand there.
+    """
     left = drafts.left_at()
     if left is None:
         return state
@@ -36,6 +38,8 @@ def where_left(drafts: Drafts, state: State) -> State:
         return state
     pane = Pane.CELLS if left.is_in_cells else Pane.PRINT
     state = replace(state.at(places[0], left.place), pane=pane)
+    if left.version != state.version:
+        return state
     return state.saying(f"{_OPENED_THERE}{state.message}".rstrip())
 
 
@@ -55,15 +59,13 @@ def asking(state: State) -> State:
 
 
 def with_cut(unsent: Unsent, state: State) -> State:
-    """The state with what was cut out of a text when scribe was ended, for Ctrl-Y."""
-    text = unsent.cut
-    if not text:
+    """The state with what was cut out of a text when scribe was ended, for Ctrl-Y.
+
+    Nothing is said of it: most of what is cut is what something else was typed in the place of.
+    """
+    if not unsent.cut:
         return state
-    state = replace(state, cut=Cut(Field(Purpose.EDIT), text, False))
-    if unsent.waiting:
-        return state
-    said = f"{quoted(text)} was cut out of what was typed. Ctrl-Y puts it in while you type."
-    return state.saying(f"{said} {state.message}".rstrip())
+    return replace(state, cut=Cut(Field(Purpose.EDIT), unsent.cut, False))
 
 
 def with_answers(unsent: Unsent, state: State) -> State:
@@ -102,8 +104,7 @@ def reminded(
                 go_on = "i and the name of that file go on."
                 sentences += [came_to(found), go_on]
             case NotSeen():
-                leave = "scribe import with --leave leaves the rest out."
-                sentences += [not_seen(found), leave]
+                sentences.append(not_seen_yet(found, "i"))
             case NotKept():
                 # of a folder that can't be read it may be said already
                 fault = not_kept(found)

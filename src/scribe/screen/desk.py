@@ -20,6 +20,7 @@ from braildesk import (
 from braildesk.desk import aftermath
 from braildesk.desk.around_marks import corrections, prints_between
 from braildesk.desk.change_all import Replacement
+from braildesk.desk.changed_so_far import end_taken_back
 from braildesk.desk.correction import Correction, place_kept, smallest_correction
 from braildesk.desk.draft import Aim, Draft, Unread
 from braildesk.desk.drafts import Drafts, LeftAt, NotKept
@@ -47,6 +48,7 @@ from scribe.screen.actions import (
     Action,
     AskForNote,
     BringBack,
+    BringTyped,
     ByPages,
     ChangePlaces,
     ExportTo,
@@ -114,6 +116,7 @@ from scribe.screen.waiting import (
     unkept,
     where_kept,
     with_text,
+    with_typed_last,
 )
 from scribe.words import deeds, pagelook
 from scribe.words.aftermath import deed_found, found_again, kept_alone
@@ -125,6 +128,7 @@ from scribe.words.drafts import (
     is_in_book,
     not_kept,
     taken_back_in_part,
+    typed_by_others,
     where_typed,
 )
 from scribe.words.export import copy_of_open, may_be_of_other
@@ -133,6 +137,7 @@ from scribe.words.links import led
 from scribe.words.paragraph import counted, part_of
 from scribe.words.preview import Preview, Tables
 from scribe.words.status import Interrupted, Stop, in_sentences, of_system
+from scribe.words.typed_last import TypedLast
 
 _OPEN_AGAIN = "The book is open again."
 # what was kept last if that isn't of this screen, and what becomes of what is
@@ -179,7 +184,8 @@ class Desk:
         self.tables = Tables()
         self._session: Session
         self._unsent = Unsent(self.drafts)
-        self._notices = self._take_up()
+        #: What keys typed last, whatever they did.
+        self.typed_last = TypedLast(self.drafts)
         #: What was last said to be in the way of keeping what is typed.
         self._fault = ""
         #: Where the book would be left, as it was kept last.
@@ -193,6 +199,9 @@ class Desk:
         #: Whether people were told at the opening to wait, before anything of the book was seen.
         self.was_waited_for = False
         self._open(self._wait)
+        # whoever had the book open until now may have typed on
+        self._notices = self._take_up()
+        self.typed_last.begin()
 
     @property
     def pid(self) -> int:
@@ -208,6 +217,11 @@ class Desk:
     def has_waiting(self) -> bool:
         """Whether a text is kept that the book doesn't have, to be offered at the next opening."""
         return self._unsent.waiting is not None
+
+    @property
+    def kept_cut(self) -> str:
+        """What was cut out of a text, as it is kept."""
+        return self._unsent.cut
 
     @property
     def unkept(self) -> tuple[str, ...]:
@@ -358,7 +372,8 @@ class Desk:
         before = self._unsent.waiting, self._unsent.cut
         try:
             try:
-                self._unsent.keep_cut(state.cut.text if state.cut else "")
+                cut = state.cut_kept
+                self._unsent.keep_cut(cut.text if cut else "")
                 answers = answered_with(state, state.typed).answers
                 names = {each.name: text for each, text in answers.items()}
                 self._unsent.keep_answers(names, words_of(state))
@@ -423,7 +438,7 @@ class Desk:
                     state = replace(state, kept=f"kept: {ending.kept}")
                 if ending.lost is not None:
                     raise ending.lost
-                self._open_further()
+                meanwhile = self._open_further()
                 self._session.guard(held)
             before = state
             state = self._opened_again(state)
@@ -437,7 +452,7 @@ class Desk:
         except OSError as failure:
             # whether the book is where it was isn't known
             return _closed(state, of_system(failure, ""), ending.lines)
-        return self._drawn(_after_closed(before, state, ending))
+        return self._drawn(_after_closed(before, state, ending).saying_too(meanwhile))
 
     def keep_place(self, state: State) -> None:
         """Keeps where the book is left, so that it opens there again."""
@@ -449,6 +464,7 @@ class Desk:
             state.pane is Pane.CELLS,
             state.is_quiet,
             state.has_dots,
+            state.version,
         )
         if left != self._left:
             self._left = left
@@ -457,6 +473,10 @@ class Desk:
     def stop(self, number: signal.Signals) -> None:
         """Has the work with the session closed end before its next step."""
         self._stopped_by = number
+
+    def hasten(self) -> None:
+        """Has a program that doesn't answer be waited for no longer than for a while."""
+        self._session.hasten()
 
     def _check(self) -> None:
         if self._stopped_by is not None:
@@ -491,13 +511,20 @@ class Desk:
         self._session = session
         self.tables.read(found)
 
-    def _open_further(self) -> None:
+    def _open_further(self) -> str:
         """Opens another session, in which what was kept before is at stake as well.
 
-        What is left of the one before may have the book for another moment.
+        What is left of the one before may have the book for another moment. It is said what was typed
+        elsewhere since that one.
         """
         self._open(max(self._wait, aftermath.PATIENCE))
         self._session.guard()
+        self.typed_last.begin()
+        found = self._unsent.others()
+        if found is None:
+            return ""
+        draft, how = found
+        return f"{typed_by_others(draft.joined)} {how or 'U brings it back.'}"
 
     def _opened_again(self, state: State) -> State:
         book, version = self._session.paragraphs(), self._session.last_version
@@ -657,7 +684,7 @@ class Desk:
         waits = draft_of(state) or self._unsent.waiting
         try:
             self._session.close()
-            self._open_further()
+            others = self._open_further()
             self._saved = None
             found = replace(without_typed(state), question=None, pages=None)
             found = self._opened_again(replace(found, is_lost=False))
@@ -671,7 +698,7 @@ class Desk:
                 # it may be of this screen, or of another program
                 found = replace(found, kept=newest)
             left = _LEFT if state.deeds and not found.deeds else ""
-            found = found.saying(f"{said} {now} {left}".rstrip())
+            found = found.saying(_joined(said, now, left, others))
             found = self._offered(found, waits)
             return with_changes(self.drafts, self._session, found)
         except Displaced as lost:
@@ -700,11 +727,11 @@ class Desk:
         waits = draft_of(state) or self._unsent.waiting
         unsaved = state.message if waits != self._unsent.waiting else ""
         try:
-            self._open_further()
+            others = self._open_further()
             there = aftermath.found_again(self._session, lost)
             found_words = found_again(there, begun)
             left = _LEFT if there.kept is None and state.deeds else ""
-            said = " ".join(filter(None, (lost.cause, found_words, left, unsaved)))
+            said = _joined(lost.cause, found_words, left, unsaved, others)
             kept_to = lost.version + (there.kept or 0)
             since = lost.version if begun is None else begun
             found = _kept_since(state.failing(said), since, kept_to)
@@ -925,6 +952,7 @@ class Desk:
                 left = deeds.without(deed, earlier, found.deeds[-1])
                 interrupted.state = replace(found, deeds=left)
             raise
+        self._end_taken_back(deed)
         left = deeds.without(deed, earlier, state.deeds[-1])
         return saying_first(deed.sentence, replace(state, deeds=left))
 
@@ -958,7 +986,17 @@ class Desk:
         book = self._session.paragraphs()
         state = replace(state, book=book, openings={}, reading=None, highlighted=None)
         state = so_far(state, done)
-        return self._drawn(state.saying(said) if done == count else state.failing(said))
+        if done < count:
+            return self._drawn(state.failing(said))
+        self._end_taken_back(deed)
+        return self._drawn(state.saying(said))
+
+    def _end_taken_back(self, deed: Deed) -> None:
+        """Takes away what is noted of words that were being changed, all of which was taken back."""
+        if deed.wanted is not None:
+            # what was taken back is so whatever becomes of the session
+            with suppress(Lost):
+                end_taken_back(self._session, self.drafts, deed.wanted)
 
     def _note_back(self, state: State, count: int) -> None:
         """Notes how many changes are to be taken back, or that nobody has to hear how many were."""
@@ -1015,16 +1053,19 @@ class Desk:
                 return self._left_out(state, action)
             case TakeBack():
                 return self._taking_back(state, action)
-            case GiveUp() | PutOff() | BringBack() | PutBy():
+            case GiveUp() | PutOff() | BringBack() | BringTyped() | PutBy():
                 return self._with_text(state, action)
             case OpenAgain():
                 said = _OPEN_INSTEAD if state.is_displaced else _OPEN_AGAIN
                 return self._opened_anew(state, said)
 
     def _with_text(
-        self, state: State, action: GiveUp | PutOff | BringBack | PutBy
+        self, state: State, action: GiveUp | PutOff | BringBack | BringTyped | PutBy
     ) -> State:
-        state = with_text(self._session, self._unsent, state, action)
+        if isinstance(action, BringTyped):
+            return with_typed_last(state, self.typed_last.bring())
+        its = self._unsent, state, action, self.typed_last.has
+        state = with_text(self._session, *its)
         self._copy_kept()
         return state
 
@@ -1426,6 +1467,11 @@ def _with_report(state: State, ending: ActionResult) -> State:
     after = state.pages.lines if state.is_lost and state.pages else ()
     title = state.pages.title if state.is_lost and state.pages else ending.title
     return replace(state, pages=Pages(title, (*ending.lines, *after)))
+
+
+def _joined(*sentences: str) -> str:
+    """Sentences, of which some may be none."""
+    return " ".join(filter(None, sentences))
 
 
 def _closed(state: State, sentence: str, done: Sequence[str] = ()) -> State:

@@ -50,7 +50,7 @@ def to_mark(session: Session, state: State, action: ToMark) -> State:
     found = search.next_mark(session, here.book, spot, action.is_back)
     if found is None:
         return state.saying("The book has no open marks.")
-    state = at_mark(replace(here, anchor=None), found, action.is_back)
+    state = at_mark(replace(here, anchor=None), found, action.is_back, spot)
     return _saying_mark(session, state, found)
 
 
@@ -84,6 +84,7 @@ def _to_cells(session: Session, state: State, sought: str) -> State:
         return state.saying(
             f"{character} is no cell in Braille ASCII or Unicode. Tab goes to the print."
         )
+    state = replace(state, finds_alike=False)
     here = search.Spot(state.chosen, state.place)
     found = search.next_cells(session, state.book, here, cells)
     if found is None:
@@ -115,6 +116,8 @@ def _with_others_alike(session: Session, state: State, sought: str) -> State:
 def _at_found(session: Session, state: State, found: search.Found, count: int) -> State:
     """The state with the cursor at what was looked for, of so many characters or cells."""
     spot, what = found.spot, quoted(state.sought)
+    if state.finds_alike:
+        what = f"{what} in any form"
     said = ""
     if found.is_same:
         said = f"{what} is nowhere else in the book."

@@ -7,7 +7,7 @@ from dataclasses import replace
 
 from braildesk import Mark, Session
 from braildesk.desk.places import words_of
-from braildesk.desk.search import Found
+from braildesk.desk.search import Found, Spot
 from braildesk.text.spans import Span
 
 from scribe.screen.field import Purpose
@@ -15,17 +15,17 @@ from scribe.screen.state import InHand, State, prompted
 from scribe.words.paragraph import marked_words as where
 from scribe.words.paragraph import quoted
 
-_FIRST = "No open mark up to the end of the book: this is the first in it."
-_LAST = "No open mark up to the front of the book: this is the last in it."
+_FIRST = "No open mark{} up to the end of the book: this is the first in it."
+_LAST = "No open mark{} up to the front of the book: this is the last in it."
 # said before it is put, since the book keeps it
 _OF_MARK = "r resolves a mark, and nothing takes it out."
 #: Of how many lines a screen is on which a mark has a row, and on which its words are seen beside its note.
 _WITH_ROW, _WITH_NOTE = 3, 2
 
 
-def at_mark(state: State, found: Found, is_back: bool) -> State:
-    """The state with the cursor at an open mark that was looked for, which is in hand there."""
-    spot = found.spot
+def at_mark(state: State, found: Found, is_back: bool, since: Spot) -> State:
+    """The state with the cursor at an open mark that was looked for from a spot, which is in hand there."""
+    spot, before = found.spot, state
     # a mark without words may stand after the last character
     place = max(0, min(spot.place, state.book[spot.chosen].length - 1))
     has_moved = (spot.chosen, place) != (state.chosen, state.place)
@@ -33,8 +33,24 @@ def at_mark(state: State, found: Found, is_back: bool) -> State:
     if found.is_same:
         return state.saying("The book has no other open mark.")
     if found.is_around:
-        return state.saying(_LAST if is_back else _FIRST)
-    return state if has_moved else state.saying(f"Mark {spot.mark} begins here too.")
+        way = _way(before, spot, since, is_back)
+        return state.saying((_LAST if is_back else _FIRST).format(way))
+    if has_moved or spot.place != place:
+        return state
+    return state.saying(f"Mark {spot.mark} begins here.")
+
+
+def _way(state: State, spot: Spot, since: Spot, is_back: bool) -> str:
+    """From which mark it was gone around to another one, where that isn't seen by the cursor."""
+    cursor = state.chosen, state.place
+    if since.mark > 0:
+        # the mark that was in hand may be elsewhere than the cursor, or where the other one begins
+        is_seen = (since.chosen, since.place) == cursor != (spot.chosen, spot.place)
+        return (
+            "" if is_seen else f" {'before' if is_back else 'after'} mark {since.mark}"
+        )
+    is_here = spot.mark in (each.id for each in state.marks_here)
+    return f" but mark {spot.mark}" if is_here else ""
 
 
 def with_mark_in_hand(state: State, before: State) -> State:

@@ -10,6 +10,7 @@ from scribe.screen import pager, whole_book
 from scribe.screen.actions import (
     AskForNote,
     BringBack,
+    BringTyped,
     ChangePlaces,
     ListHeadings,
     ListMarks,
@@ -319,6 +320,10 @@ def _bring_back(state: State) -> Step:
     return Step(state, BringBack())
 
 
+def _bring_typed(state: State) -> Step:
+    return Step(state, BringTyped())
+
+
 def _strike(state: State) -> Step:
     its = _chosen(state)
     request = requests.Restore if its.struck else requests.Strike
@@ -421,6 +426,7 @@ NAMES = {
     "pagedown": "Page Down",
     "a-up": "Alt-Up",
     "a-down": "Alt-Down",
+    "a-y": "Alt-Y",
     "enter": "Enter",
     "tab": "Tab",
     "f1": "F1",
@@ -462,6 +468,7 @@ KEYS = {
     "O": Bound("a new paragraph before this one", _new(Purpose.BEFORE), False),
     "u": Bound("takes back what a key last did, or the newest correction", _take_back),
     "U": Bound("brings back a text that was given up", _bring_back, False),
+    "a-y": Bound("a new paragraph with all that was typed last", _bring_typed, False),
     "h": Bound("the history of the paragraph", lambda s: Step(s, ShowHistory())),
     " ": Bound("begins or ends a choice of cells, for m", _choose_cells),
     "m": Bound("puts a mark on the cells or the words found, with a note", _mark),

@@ -26,7 +26,7 @@ from scribe.screen.typing_keys import is_character, no_table, table_of_new, whil
 _NO_ANSWER = "That key is no answer to the question."
 _READ_ON = "Up and Down go through it."
 _ASKED_LATER = "It is asked again when the book is opened."
-_STAYS_GIVEN_UP = "It stays set aside. U asks about it again."
+_STAYS_GIVEN_UP = "It stays set aside. U{} asks about it again."
 _STAYS_TYPED = "It stays as it is typed. Enter asks again."
 _NOT_DONE = {
     ImportFrom: "Nothing was typed.",
@@ -126,7 +126,9 @@ def _about_text(state: State, question: Question, draft: Field, key: str) -> Ste
         if question.came_from is not None:
             chosen, place, pane = question.came_from
             state = replace(state.at(chosen, place), pane=pane)
-        return Step(replace(state, anchor=None).saying(_STAYS_GIVEN_UP))
+        times = f", pressed {question.older} times," if question.older > 1 else ""
+        said = _STAYS_GIVEN_UP.format(times)
+        return Step(replace(state, anchor=None).saying(said))
     return _no_answer(asked)
 
 

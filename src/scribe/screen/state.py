@@ -208,8 +208,9 @@ class State:
     typed: Field | None = None
     #: The purposes of which a hint was said already: it is said once.
     hinted: frozenset[Purpose] = frozenset()
-    #: What was last cut out of a text that is typed.
+    #: What was last cut out of a text for the book, and out of an answer since then.
     cut: Cut | None = None
+    answer_cut: Cut | None = None
     #: A text that Enter ended, while nothing else is done: it came among keys that came all at once, or
     #: the book didn't get the text.
     ended: Field | None = None
@@ -283,6 +284,11 @@ class State:
             return joined
         front = joined.text[:most]
         return replace(joined, text=front, place=len(front))
+
+    @property
+    def cut_kept(self) -> Cut | None:
+        """What is kept of what was cut: what was for the book first of all."""
+        return self.cut or self.answer_cut
 
     @property
     def list_lines(self) -> int:

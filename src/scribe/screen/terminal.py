@@ -51,6 +51,7 @@ from scribe.screen.waiting import not_obeyed
 from scribe.words.console import WAITING
 from scribe.words.encoding import in_encoding
 from scribe.words.status import Interrupted, of_system
+from scribe.words.typed_last import PARTED
 
 # no colours: what is highlighted is reversed, what is marked is underlined
 _STYLE = Style(
@@ -159,6 +160,8 @@ _SIGNALS = (
     signal.SIGQUIT,
     signal.SIGXCPU,
 )
+# keys after which the same word goes on
+_ERASING = ("backspace", "delete")
 # what stands before a sentence that was said of what keys have changed since
 _BEFORE_KEYS = "Before the last keys this was said: "
 # and what stands after it, before a sentence of these keys
@@ -222,7 +225,7 @@ class Screen:
         self, desk: Desk, state: State, clock: Callable[[], float] = time.monotonic
     ) -> None:
         self._desk = desk
-        self.state, self._cut_before = state, state.cut
+        self.state = state
         self._clock = clock
         self._keyboard = Keyboard()
         self._arrivals = Arrivals()
@@ -304,6 +307,8 @@ class Screen:
         What comes after Enter is another new paragraph, or else is set aside.
         """
         self.state = replace(self.state, is_over=True)
+        keyboard = copy(self._keyboard)
+        self._noted([*keyboard.strokes(self._taking + self._unread), *keyboard.rest()])
         came = self._left()
         if self._ends_among_lines:
             text = "".join(map(text_of, came))
@@ -316,6 +321,14 @@ class Screen:
         if rest.letters and self.ended_by is not None:
             said.append(not_obeyed(rest.letters))
         self.unseen = (*self.unseen, *said)
+
+    def _noted(self, strokes: list[Stroke]) -> list[Stroke]:
+        """Keys as they came, of which it is noted what they type, whatever becomes of that."""
+        for each in strokes:
+            self._desk.typed_last.note(
+                text_of(each) or ("" if each in _ERASING else PARTED)
+            )
+        return strokes
 
     def _left(self) -> list[Stroke]:
         """The keys that came and weren't carried out, as if no more came; none is taken in yet."""
@@ -334,16 +347,11 @@ class Screen:
     def _keep_last(self) -> None:
         """Keeps what is typed at the end, and has it said if it can't be, or if it waits."""
         self._desk.keep_place(self.state)
+        self._desk.typed_last.keep()
         state = self.state
-        is_ended = not (state.typed or self._is_told_to_end)
-        if is_ended and state.cut == self._cut_before:
-            # who ends it by themselves was reminded of that as it began
-            state = replace(state, cut=None)
         kept = self._desk.saved(state)
-        if kept is not state and kept.typed is not None:
-            lines = tuple(map(visible, lines_typed(kept)))
-            typed = ("This was typed:", *lines) if lines else ()
-            self.unseen = (*self.unseen, kept.message, *typed)
+        if unkept := self._not_kept(kept) if kept is not state else ():
+            self.unseen = (*self.unseen, *unkept)
         elif self.ended_by is not None and self._desk.has_waiting and not kept.is_lost:
             self.unseen = (*self.unseen, _WAITS)
         for text in self._desk.unkept:
@@ -351,6 +359,14 @@ class Screen:
         if kept is state and not self._desk.unkept:
             self._desk.keep_unread(None)
         self.state = kept
+
+    def _not_kept(self, state: State) -> tuple[str, ...]:
+        """What is said of what is typed, or was cut, and can't be kept; nothing of neither."""
+        lines, its = tuple(map(visible, lines_typed(state))), state.cut_kept
+        typed = ("This was typed:", *lines) if lines else ()
+        is_cut = its is not None and its.text != self._desk.kept_cut
+        cut = ("This was cut:", visible(its.text)) if its and is_cut else ()
+        return (state.message, *typed, *cut) if is_cut or state.typed else ()
 
     def _settle(self) -> None:
         """Waits for what is done with the session closed, which ends soon once it is to end."""
@@ -468,7 +484,7 @@ class Screen:
         self._do(self._arrivals.let_go(pressed_at))
         self._question.came(self._asked, pressed_at, read_at)
         text, self._taking = self._taking, ""
-        strokes = self._keyboard.strokes(text)
+        strokes = self._noted(self._keyboard.strokes(text))
         if is_unseen := self._is_unseen(read_at, since):
             strokes = [each for each in strokes if text_of(each)]
         # what is begun at an offer is one text also where that isn't there any more
@@ -494,13 +510,15 @@ class Screen:
 
     def _paused(self) -> None:
         """Nothing comes after Escape, so it is that key."""
-        self._do(self._arrivals.came(self._keyboard.last(), self._clock()))
+        last = self._noted(self._keyboard.last())
+        self._do(self._arrivals.came(last, self._clock()))
 
     def _let_go(self) -> None:
         now = self._clock()
         if self._lull.is_over(now):
             self._lull.due = None
-            self._do(self._arrivals.came(self._keyboard.end_paste(), now))
+            pasted = self._noted(self._keyboard.end_paste())
+            self._do(self._arrivals.came(pasted, now))
         else:
             self._do(self._arrivals.let_go(now))
 
@@ -703,6 +721,8 @@ class Screen:
         # an export and an import end between their own steps, and the book is opened again then
         if is_told and not isinstance(self.state.away, ExportTo | ImportFrom):
             raise Interrupted(self.ended_by or signal.SIGHUP)
+        if is_told:
+            self._desk.hasten()
         if not self._app.is_running:
             self._say_waiting()
         elif self.state.away and self._app.loop is not None:
@@ -786,6 +806,7 @@ class Screen:
                 # a slow disk holds up no key
                 await loop.run_in_executor(None, self._desk.keep_place, state)
             before = self.state
+            await loop.run_in_executor(None, self._desk.typed_last.keep)
 
     def _fail(self, loop: asyncio.AbstractEventLoop, context: dict[str, Any]) -> None:
         """What a key, or what goes on beside the keys, failed by.

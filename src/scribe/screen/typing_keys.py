@@ -142,16 +142,27 @@ def _cut_out(state: State, cut: Cut) -> State:
     """The state with words cut out; those cut one after the other are put back together."""
     if not cut.text:
         return state.saying("There is nothing to cut there.")
-    before = state.cut.text if state.cut and state.cut.field == state.typed else ""
+    last = state.answer_cut or state.cut
+    before = last.text if last and last.field == state.typed else ""
     text = cut.text + before if cut.is_back else before + cut.text
-    state = replace(state, typed=cut.field, cut=replace(cut, text=text))
+    state = _with_cut(replace(state, typed=cut.field), replace(cut, text=text))
     return state.saying(f"{quoted(text)} was cut. Ctrl-Y puts it in.")
 
 
+def _with_cut(state: State, cut: Cut) -> State:
+    """The state with what was cut last: out of an answer it takes no place of what was for the book."""
+    if cut.field.purpose.is_for_book:
+        return replace(state, cut=cut, answer_cut=None)
+    return replace(state, answer_cut=cut)
+
+
 def _put_back(state: State, typed: Field) -> State:
-    if state.cut is None:
+    """The state with what was cut put in: for the book first of all what was cut there."""
+    first, other = state.cut, state.answer_cut
+    cut = first or other if typed.purpose.is_for_book else other or first
+    if cut is None:
         return state.saying("Nothing was cut yet, so nothing was put in.")
-    return replace(state, typed=typed.inserted(state.cut.text))
+    return replace(state, typed=typed.inserted(cut.text))
 
 
 def entered(state: State, typed: Field) -> Step:

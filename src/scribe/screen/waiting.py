@@ -1,5 +1,6 @@
 """Texts that were typed and aren't in the book: they are set aside, and asked about again."""
 
+from collections.abc import Callable
 from dataclasses import replace
 
 from braildesk import Session
@@ -11,7 +12,7 @@ from braildesk.text.sequences import composed
 from braildesk.text.spans import Span
 
 from scribe.screen.actions import BringBack, GiveUp, PutBy, PutOff, Quit
-from scribe.screen.field import Purpose
+from scribe.screen.field import Field, Purpose
 from scribe.screen.in_hand import marked_words, on_words
 from scribe.screen.state import (
     Pane,
@@ -22,6 +23,7 @@ from scribe.screen.state import (
     draft_of_pasted,
     field_of,
 )
+from scribe.screen.typing_keys import no_table, table_of_new
 from scribe.words.drafts import (
     Unsent,
     as_paragraphs,
@@ -32,6 +34,7 @@ from scribe.words.drafts import (
     without_paragraph,
 )
 from scribe.words.paragraph import counted, quoted
+from scribe.words.typed_last import BROUGHT, NOTHING
 
 _PASTED = (
     "Pasted text goes in after Enter or o. No key of it was obeyed. U brings it back, for a new"
@@ -59,11 +62,12 @@ def with_text(
     unsent: Unsent,
     state: State,
     action: GiveUp | PutOff | BringBack | PutBy,
+    is_typed_last: Callable[[str], bool],
 ) -> State:
-    """What becomes of a text that isn't sent."""
+    """What becomes of a text that isn't sent. All that was typed last, brought back, is kept as that."""
     match action:
         case GiveUp():
-            return _given_up(unsent, state)
+            return _given_up(unsent, state, is_typed_last)
         case BringBack():
             return _brought_back(session, unsent, state, action.place)
         case PutBy():
@@ -74,7 +78,9 @@ def with_text(
     return replace(state, question=None, anchor=None).saying(said)
 
 
-def _given_up(unsent: Unsent, state: State) -> State:
+def _given_up(
+    unsent: Unsent, state: State, is_typed_last: Callable[[str], bool]
+) -> State:
     """Gives up lines that are asked about, what is typed, or the text that waits."""
     asked = state.question
     if asked is not None and asked.draft is not None:
@@ -83,7 +89,8 @@ def _given_up(unsent: Unsent, state: State) -> State:
     if asked is not None and asked.saved is not None:
         # at another place it would be another text
         draft = asked.saved
-    fault = unsent.put_by(draft) if draft else ""
+    is_kept = draft is not None and draft.aim is Aim.AFTER and is_typed_last(draft.text)
+    fault = unsent.put_by(draft) if draft and not is_kept else ""
     if asked is not None and asked.lines:
         its, field = state.reading, state.typed
         if its is not None and field is not None and field.text == its.text:
@@ -93,7 +100,7 @@ def _given_up(unsent: Unsent, state: State) -> State:
         return replace(state, question=None).saying(said)
     said = "Given up. The book is as it was."
     if draft is not None:
-        said = f"{said} {fault or 'U brings it back.'}"
+        said = f"{said} {fault or ('Alt-Y' if is_kept else 'U') + ' brings it back.'}"
     given_up = replace(state, typed=None, preview=None, question=None, anchor=None)
     return given_up.saying(said)
 
@@ -110,9 +117,20 @@ def _brought_back(session: Session, unsent: Unsent, state: State, place: int) ->
     state = asked_about(session, state, texts[place], "was set aside")
     assert state.question is not None
     sentence = f"{place + 1} of {len(texts)}. {state.question.sentence}"
-    more = "U asks about the one before." if len(texts) > 1 else ""
+    more = "U asks about the one before." if place + 1 < len(texts) else ""
+    if len(texts) > 1 and not more:
+        more = "U asks about the newest one again."
     asked = replace(state.question, sentence=sentence, older=place + 1, more=more)
     return replace(state, question=replace(asked, came_from=came_from))
+
+
+def with_typed_last(state: State, text: str) -> State:
+    """A new paragraph is typed after this one, with all that keys typed last, if they typed anything."""
+    table = table_of_new(state)
+    if not text or table is None:
+        return state.saying(no_table(state) if text else NOTHING)
+    field = Field(Purpose.AFTER, text, len(text))
+    return replace(state, table=table, typed=field).saying(BROUGHT)
 
 
 def _put_by(unsent: Unsent, state: State, action: PutBy) -> State:

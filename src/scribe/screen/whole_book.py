@@ -204,7 +204,8 @@ def deed_of(action: OfWholeBook, changed: Sequence[int]) -> Deed:
     count_of = Count(action.wanted)
     for number in changed:
         count_of.add_change(number)
-    return Deed(count_of.changed_in_words().removesuffix("."), back)
+    what = count_of.changed_in_words().removesuffix(".")
+    return Deed(what, back, wanted=action.wanted)
 
 
 def _found(session: Session, state: State, action: FindPlaces) -> State:

@@ -3,6 +3,7 @@
 from functools import partial
 
 from scribe.window.desk import Desk
+from scribe.window.spoken import ended
 
 
 def say_there(desk: Desk, said: str) -> None:
@@ -11,5 +12,5 @@ def say_there(desk: Desk, said: str) -> None:
         here = desk.reading.its.paragraph, desk.cell
         look = partial(desk.book.place_said, desk.contents, desk.page_size, here)
         page = desk.long("Page and line", look)
-        said = f"{said} {page}"
+        said = f"{ended(said)} {page}"
     desk.say(said)

@@ -380,7 +380,7 @@ class OpenBook:
         path: Path | None,
         go_on: Callable[[str], bool],
     ) -> Done:
-        """Gives a paragraph a table, which is put into the book where it isn't there.
+        """Gives a paragraph, or new ones, a table, which is put into the book where it isn't there.
 
         It may be that of a file. What the book makes of its text is for the book to say. Each step is
         said before it is done, and is done where it goes on; raises `Stop` where none was done, and
@@ -390,7 +390,8 @@ class OpenBook:
         if name not in self.tables.names or path is not None:
             done = self._with_new_table(name, path, go_on)
         if paragraph is None:
-            return done or Done(self.contents(), f"kept: table {name}", None)
+            said = f"New paragraphs have the table {name}."
+            return Done(self.contents(), said, None)
         if go_on(f"Paragraph {paragraph} is given the table {name}."):
             try:
                 return self.done(requests.Retable(paragraph, name))
@@ -533,7 +534,7 @@ class OpenBook:
             became = "replaced in" if wanted.new else "taken out of"
             places = counted(len(backs), "place")
             what = f"{quoted(wanted.old)} was {became} {places}"
-            self._deeds = (*before, Deed(what, backs))
+            self._deeds = (*before, Deed(what, backs, wanted=wanted))
 
     def taken_back(self, report: Callable[[int, int], None]) -> Done:
         """Takes back what was done last in this window.

@@ -192,7 +192,9 @@ class Changing:
         unseen = filter(None, [not_seen(further.unseen(found))])
         said = " ".join([*before, *unseen, how_many(further.wanted, found)])
         asked = f"{said} The first one:\n\n{front}"
-        return self.desk.answer(_TITLE, asked, _OF_ALL)
+        # Enter may have come to the words that go, and meant that others be asked for
+        by_enter = () if further.wanted.new else (len(_OF_ALL) - 1,)
+        return self.desk.answer(_TITLE, asked, _OF_ALL, *by_enter)
 
     def _do(
         self,

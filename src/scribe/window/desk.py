@@ -37,7 +37,7 @@ from braildesk.text.sequences import composed
 from braildesk.text.spans import Span
 from braildesk.text.wrapping import wrap
 
-from scribe.window import dialogs
+from scribe.window import dialogs, typed_on
 from scribe.window.book import (
     Contents,
     Done,
@@ -52,6 +52,7 @@ from scribe.window.dialogs import IsStopped, Say, ask, offer
 from scribe.window.fields import LINE_END
 from scribe.window.held import Held
 from scribe.window.menus import MENUS
+from scribe.window.taken_back import TakenBack
 from scribe.window.window import Window
 from scribe.window.worker import Worker
 from scribe.words import pagelook
@@ -65,6 +66,7 @@ from scribe.words.drafts import (
     typed_at_lines,
     typed_and_taken_back,
     typed_below,
+    typed_by_others,
     typed_meanwhile,
     typed_there,
     what_for,
@@ -72,6 +74,7 @@ from scribe.words.drafts import (
 from scribe.words.paragraph import counted, mark_line, quoted, title
 from scribe.words.preview import Preview
 from scribe.words.status import Interrupted, Stop, in_sentences
+from scribe.words.typed_last import TypedLast
 
 Result = TypeVar("Result")
 #: What is said where an action needs a paragraph, where that has to be one that isn't struck, and where
@@ -81,6 +84,7 @@ STRUCK = "is struck. Ctrl+D restores it, so that it can be changed."
 CLOSED = "The book is closed: Open the book again, in the menu Book, opens it."
 _GONE = "The book is closed: Its file isn't at “{path}” any more. {then}"
 _THEN = "Open the book again, in the menu Book, opens it once it is there again."
+_LAST_IS_IN_IT = "What was typed last is in it."
 _SAVED = "All of the book is in “{saved}”, which scribe window opens."
 _NOT_PASTED = "Nothing was pasted: a text goes into the print. F2 goes there."
 _NOT_TYPED = "Nothing is typed here: a text goes into the print. F2 goes there."
@@ -112,6 +116,15 @@ class New:
     paragraph: int | None
     table: str
 
+    @property
+    def title(self) -> str:
+        """What it is."""
+        where = "at the end of the book"
+        if self.paragraph is not None:
+            way = "after" if self.aim is Aim.AFTER else "before"
+            where = f"{way} paragraph {self.paragraph}"
+        return f"A new paragraph {where}, table {self.table}"
+
 
 class Desk:
     """A book that is open in a window."""
@@ -122,25 +135,35 @@ class Desk:
     is_closed = False
     #: How the session ended, in sentences, until the book is open again.
     loss = ""
+    #: It ends by a signal or a fault, so that what is typed waits.
+    is_ending = False
     # the book is being opened after its session ended
     _is_opening_again = False
+    # where the book would be left, as it was kept last
+    _left: LeftAt | None = None
+    # what the caret stands on, with its cells; and the braille of what is typed
+    _light: Highlighted | None = None
+    _preview: Preview | None = None
     # what had the focus before the program was waited for, while that is said
     _waits_from: QWidget | None = None
+    #: What is said where the window waits for long, if that isn't for the program.
+    waits_for = WAITING
+    _said_waiting = ""
+    # whether what is being done, or was done last, said something
+    _is_said = False
     # the print as it was before a dialog was opened, with its caret
     _beneath = "", 0, 0
     # others than hands type where nothing can be typed
     _is_typed_nowhere = False
-    # the text that was put into the print last by no hands, the print from which it was typed, and it
-    # again where it was given up by being taken back
+    # the text that was put into the print last by no hands, and the print from which it was typed
     _put_in = ""
     _put_in_from: str | None = None
-    _taken_back: Draft | None = None
-    # what is said of that, as long as it is given up
-    _of_taken_back = ""
-    # the longest of what was typed, of which something was taken back
-    _typed_whole: Draft | None = None
+    # what was said as it was given up by being taken back
+    _said_of_put_in = ""
     # the print from which what is typed was typed, where that was another one
     _typed_from: str | None = None
+    # the table that was chosen for new paragraphs while the book has none
+    _table_chosen: str | None = None
     # what is said to be in the way of keeping what is typed
     _unkept = ""
     # the same of a text that is held while the window waits
@@ -166,21 +189,20 @@ class Desk:
         self.work, self.aside, self.ahead = (Worker(self.held) for _ in range(3))
         self.book = OpenBook(path, by, wait, self._look_at_end)
         self.drafts = Drafts(path)
-        self.unsent = Unsent(self.drafts)
+        self.unsent, self.typed_last = Unsent(self.drafts), TypedLast(self.drafts)
         self.contents = Contents(0, (), ())
         self.row = -1
         self.reading: ChosenParagraph | None = None
         self.new: New | None = None
         #: What is typed and isn't in the print: a note, or lines that are to be paragraphs.
         self.beside: Draft | None = None
-        self.is_ending = False  #: By a signal or a fault, so that what is typed waits.
         self.in_hand: int | None = None
         self.is_ascii = False
         self._saved: Path | None = None  # where all of a book that is gone was saved
         self.acts: dict[str, Callable[[], None]] = {}
-        self._left: LeftAt | None = None
-        self._light: Highlighted | None = None
-        self._preview: Preview | None = None
+        self._taken_back = TakenBack()
+        # what of that was given up in this print, by how it reads, and what is said of it
+        self._given_up: dict[str, tuple[Draft, str]] = {}
         self._is_showing = self._is_acting = False
         # what had the focus before the message, and whether that took it by itself
         self._came_from: QWidget | None = None
@@ -200,6 +222,7 @@ class Desk:
     def _connect(self) -> None:
         self.work.waits.connect(self._say_waiting)
         self.held.changed.connect(self._keep_held)
+        self.held.note = self.typed_last.note
         self.held.unanswered.connect(self._put_by_held)
         chosen = self.window.table.selectionModel()
         assert chosen is not None
@@ -207,8 +230,10 @@ class Desk:
         self._resting = QTimer(window)
         self._resting.timeout.connect(self._note_place)
         self._resting.timeout.connect(self._keep_again)
+        self._resting.timeout.connect(self._keep_typed_last)
         chosen.currentChanged.connect(self._chosen)
         window.print.textChanged.connect(self._typed)
+        window.print.text_came.connect(self.typed_last.note)
         window.print.cursorPositionChanged.connect(self._in_print)
         window.cells.cursorPositionChanged.connect(self._in_cells)
         window.print.entered.connect(lambda: self.act("keep"))
@@ -218,6 +243,8 @@ class Desk:
         window.message.entered.connect(self.go_back)
         window.message.typed_on.connect(self._type_on)
         window.print.typed_on.connect(lambda _: self._refuse_to_type())
+        for field in (window.here, window.marks, window.page):
+            field.typed_on.connect(self._refuse_where_read)
         # Enter is where the print is typed, as on the screen
         window.table.activated.connect(lambda _: self.act("to_print"))
         window.covered.connect(self._cover)
@@ -243,6 +270,7 @@ class Desk:
         self.unwatch()
         self._resting.stop()
         self.keep_place()
+        self._keep_typed_last()
         was_closed, self.is_closed, self._is_acting = self.is_closed, True, True
         try:
             try:
@@ -252,6 +280,7 @@ class Desk:
                 # what others than hands typed until now is kept too
                 if self._is_typed_nowhere:
                     self._give_up_where_none_is_typed()
+                self._keep_taken_back()
                 self.aside.stop()
         except Lost as lost:
             self._follow(lost)
@@ -273,7 +302,9 @@ class Desk:
         elif self.reading is not None:
             light = self.asked(partial(self.book.by_cell, self.reading, left.place))
             self.window.print.put_caret(light.words.start)
-        self.say("The book is open where it was left.")
+        if left.version == self.contents.version:
+            # by a change something else may stand there
+            self.say("The book is open where it was left.")
 
     def keep_place(self) -> None:
         """Keeps where the book is left, so that it opens there again, here and in a terminal."""
@@ -288,6 +319,12 @@ class Desk:
             keep = partial(self.drafts.leave_at, now)
             self.aside.latest("place", keep, lambda future: None)
 
+    def _keep_typed_last(self) -> None:
+        """Keeps what keys typed last, for which nothing waits."""
+        if not self.typed_last.is_kept:
+            keep = self.typed_last.keep
+            self.aside.latest("typed last", keep, lambda future: None)
+
     def _place_now(self) -> LeftAt | None:
         """Where the window is, unless nothing is chosen or a new paragraph is typed."""
         if self.number is None or self.new is not None:
@@ -295,7 +332,8 @@ class Desk:
         in_cells = self.is_in_cells
         place = self.window.cells.place if in_cells else self.window.print.place
         before = self._left or LeftAt(self.number, 0)
-        return replace(before, paragraph=self.number, place=place, is_in_cells=in_cells)
+        now = replace(before, paragraph=self.number, version=self.contents.version)
+        return replace(now, place=place, is_in_cells=in_cells)
 
     # what is done, and what becomes of failures
 
@@ -313,22 +351,29 @@ class Desk:
         if self._is_acting:
             return
         self.take_begun_word()
-        self._is_acting = True
-        try:
-            with self.failures():
-                act()
-        finally:
-            self._is_acting = False
-            if self._watched is not None:
-                self._watched.setEnabled(True)
-        self._say_meanwhile()
+        self._is_acting, self._is_said = True, False
+        with self.window.spoken.of_changes():
+            try:
+                with self.failures():
+                    act()
+            finally:
+                self._is_acting = False
+                if self._watched is not None:
+                    self._watched.setEnabled(True)
+            self.say_meanwhile()
 
-    def _say_meanwhile(self) -> None:
-        """Says what was given up since something else was shown or asked."""
+    def say_meanwhile(self) -> None:
+        """Says what was given up since something else was shown or asked.
+
+        It comes after what the same action said, and in place of what an earlier one did.
+        """
         if self._meanwhile:
             # what is given up doesn't wait
             self.keep_draft(self.draft())
-            self.say_too(self._meanwhile)
+            if self._is_said:
+                self.say_too(self._meanwhile)
+            else:
+                self._have_stand(self._meanwhile, is_besides=True)
             self._meanwhile = ""
 
     def say_after(self, sentence: str) -> None:
@@ -379,7 +424,7 @@ class Desk:
                 self._put_by_at_offer()
 
     def _say_waiting(self, is_waiting: bool) -> None:
-        """Says that the program doesn't answer, until it does.
+        """Says that the program doesn't answer, or what else is waited for, until that is over.
 
         The message has the focus meanwhile, so that it is heard; what is pressed is held in any case.
         """
@@ -387,21 +432,26 @@ class Desk:
         if is_waiting:
             self._said_before = message.text
             self._waits_from = self.window.focusWidget()
+            self._said_waiting = visible(self.waits_for)
             if self._waits_from is message:
-                self.say(WAITING)
+                self._have_stand(self._said_waiting)
             else:
                 message.setFocus()
-                self.window.tell(WAITING)
+                self.window.tell(self._said_waiting)
             return
         before, self._waits_from = self._waits_from, None
         if before is not None and self.window.focusWidget() is message:
             before.setFocus()
-        if message.text == WAITING:
-            self.say(self._said_before)
+        if message.text == self._said_waiting:
+            self._have_stand(self._said_before)
 
     def say(self, sentence: str) -> None:
         """Has something stand in the message, where it is heard if the message has the focus."""
-        self.window.tell(visible(sentence))
+        self._is_said = True
+        self._have_stand(sentence)
+
+    def _have_stand(self, sentence: str, is_besides: bool = False) -> None:
+        self.window.tell(visible(sentence), is_besides)
         if self.window.focusWidget() is self.window.message:
             self._have_read()
 
@@ -421,7 +471,8 @@ class Desk:
         message = self.window.message.text
         is_so = sentence in (self._unkept, self._unheld)
         if sentence and sentence in message and not is_so:
-            self.say(message.replace(f" {sentence}", "").replace(sentence, "").strip())
+            rest = message.replace(f" {sentence}", "").replace(sentence, "")
+            self._have_stand(rest.strip())
 
     def until_typed(self) -> None:
         """What the message says is so until something else is typed."""
@@ -443,7 +494,7 @@ class Desk:
         focused = self.window.focusWidget()
         if focused is not None and focused is not message:
             self._came_from = focused
-        self._is_refused = True
+        self._is_refused = self._is_said = True
         # a screen reader that hears of the text or the caret first says nothing of the message
         message.setFocus()
         self.window.tell(visible(sentence))
@@ -483,20 +534,38 @@ class Desk:
         if typed and may_be:
             self.go_back()
             field.textCursor().insertText(typed)
-        elif not typed.isspace() and not self.window.message.text.endswith(_NOT_TYPED):
-            self.say_too(_NOT_TYPED)
+        elif not typed.isspace():
+            # where nothing can be typed in the print either, it would be of no use to go there
+            said = self._nothing_typed if field.isReadOnly() else _NOT_TYPED
+            if not self.window.message.text.endswith(visible(said)):
+                self.say_too(said)
+
+    def _refuse_where_read(self, typed: str) -> None:
+        """Says that nothing is typed where something is only read; Space goes on there."""
+        if not typed.isspace():
+            self.refuse(_NOT_TYPED)
 
     def _refuse_to_type(self) -> None:
         """Says why nothing can be typed in the print, to hands that type there."""
-        self.refuse(f"{self._why_not_typed} Nothing was typed.")
+        self.refuse(self._nothing_typed)
+
+    @property
+    def _nothing_typed(self) -> str:
+        """That nothing was typed in the print, and why."""
+        return f"{self._why_not_typed} Nothing was typed."
 
     @property
     def _why_not_typed(self) -> str:
         """Why nothing can be typed in the print."""
-        if self.reading is None:
-            return self.closed if self.is_closed else NO_PARAGRAPH
+        if self.is_closed or self.reading is None:
+            return self.no_paragraph
         its = self.reading.its.paragraph
         return f"Paragraph {its.id} {STRUCK if its.struck else _NOT_SHOWN}"
+
+    @property
+    def no_paragraph(self) -> str:
+        """Why there is no paragraph with which something could be done."""
+        return self.closed if self.is_closed else NO_PARAGRAPH
 
     @property
     def closed(self) -> str:
@@ -557,8 +626,6 @@ class Desk:
     def show_done(self, done: Done) -> None:
         """Shows what was kept, and only now says so."""
         self.show(done.contents, done.paragraph)
-        # what was typed and taken away before that is taken back no more
-        self.window.print.have_kept()
         self.type_anew()
         said = done.said[:1].upper() + done.said[1:]
         self.say(said if said.endswith(".") else f"{said}.")
@@ -621,8 +688,8 @@ class Desk:
             self._is_showing = False
         self.keep_draft(self.draft())
 
-    def show_row(self, row: int) -> None:
-        """Shows the print and the braille of a paragraph."""
+    def show_row(self, row: int, is_shown: bool = True) -> None:
+        """Shows the print and the braille of a paragraph, unless others come in their place at once."""
         before = self.number
         self.row, self.new, self._preview = row, None, None
         paragraphs = self.contents.paragraphs
@@ -633,23 +700,18 @@ class Desk:
                 self.reading = self.asked(lambda: self.book.reading(its))
         if self.number != before:
             self.in_hand = None
+            # also where this one reads the same
             self.type_anew()
-            # what was typed and taken away in another one, which may read the same, stays there
-            self.window.print.have_kept()
-        self.show_reading(0 if self.number != before else self.window.print.place)
+        if is_shown:
+            self.show_reading(0 if self.number != before else self.window.print.place)
 
     def show_reading(self, place: int) -> None:
         """Shows the paragraph as it is in the book."""
         reading, window = self.reading, self.window
         window.print.setReadOnly(reading is None or reading.its.paragraph.struck)
-        head = "Print"
         if reading is None:
             self.say(NO_PARAGRAPH)
-        else:
-            its = reading.its.paragraph
-            struck = "; restore it to type in it" if its.struck else ""
-            head = f"{title(its, True)}{struck}"
-        window.print_label.setText(head)
+        window.print_label.setText(self._head)
         window.print.describe(title(reading.its.paragraph, False) if reading else "")
         text = reading.its.text if reading else ""
         marks = reading.its.marks if reading else ()
@@ -665,6 +727,15 @@ class Desk:
         finally:
             self._is_showing = False
         self.link()
+
+    @property
+    def _head(self) -> str:
+        """What stands above the print of the chosen paragraph."""
+        if self.reading is None:
+            return "Print"
+        its = self.reading.its.paragraph
+        may_be_restored = its.struck and not self.is_closed
+        return f"{title(its, True)}{'; restore it to type in it' * may_be_restored}"
 
     def show_cells(self) -> None:
         """Shows the cells of the paragraph, or of what is typed, as they are shown now."""
@@ -712,16 +783,20 @@ class Desk:
 
         self.acting(act)
 
-    def choose(self, row: int, place: int = 0) -> None:
-        """Chooses a paragraph, and puts the carets on a character of it."""
+    def choose(self, row: int, place: int = 0, is_shown: bool = True) -> None:
+        """Chooses a paragraph, and puts the carets on a character of it.
+
+        It isn't shown where a new one is begun at it at once: a screen reader may read what comes in.
+        """
         self._is_showing = True
         try:
             self.window.choose(row)
         finally:
             self._is_showing = False
         if row != self.row or self.new is not None:
-            self.show_row(row)
-        self.window.print.put_caret(place)
+            self.show_row(row, is_shown)
+        if is_shown:
+            self.window.print.put_caret(place)
 
     def _choose_again(self) -> None:
         """The paragraph stays chosen in which something is typed that wasn't kept."""
@@ -935,8 +1010,9 @@ class Desk:
 
     def draft(self) -> Draft | None:
         """What is typed and not in the book yet."""
-        if self.beside is not None:
-            return self.beside
+        return self._typed_in_print() if self.beside is None else self.beside
+
+    def _typed_in_print(self) -> Draft | None:
         text = self.typed_text()
         if not self.is_typed() or not text:
             return None
@@ -958,6 +1034,8 @@ class Desk:
         """Tries again to keep what couldn't be kept, of which is said only that it is by now."""
         if self._unkept and not self._is_acting:
             self._keep(self.draft(), lambda sentence: None)
+        if self._unheld and not self._is_acting:
+            self._keep_held(is_again=True)
         if self.unsent.unkept_said and not self._is_acting:
             again = self.unsent.keep_again
             self.aside.latest("given up", again, self._unsay_given_up)
@@ -1014,6 +1092,8 @@ class Desk:
         """Keeps what is typed as what waits, once nothing can be shown, and says so if anything is."""
         draft, held = self.draft(), self._text_elsewhere()
         self.keep_draft(draft)
+        self._keep_typed_last()
+        self._keep_taken_back()
         # nothing more is done beside the window, which isn't drawn while that is waited for
         self.aside.stop()
         unkept = [*self.unsent.unkept]
@@ -1053,7 +1133,7 @@ class Desk:
         text = f"{typed.rest.text}\n{held.text_of_all}"
         return replace(typed, rest=replace(typed.rest, text=text))
 
-    def _keep_held(self) -> None:
+    def _keep_held(self, is_again: bool = False) -> None:
         """Keeps the text that is typed elsewhere than in its place until it is there, or nothing."""
         held = self._text_elsewhere()
 
@@ -1062,7 +1142,8 @@ class Desk:
                 found.result()
             except NotKept as fault:
                 self._unheld = visible(not_kept(fault))
-                self._say_besides(self._unheld)
+                if not is_again:
+                    self._say_besides(self._unheld)
                 return
             before, self._unheld = self._unheld, ""
             self.unsay(before)
@@ -1094,10 +1175,12 @@ class Desk:
             self._put_by_at_offer()
         return answer
 
-    def answer(self, title: str, asked: str, answers: Sequence[str]) -> int:
+    def answer(
+        self, title: str, asked: str, answers: Sequence[str], *by_enter: int
+    ) -> int:
         """The answer to what a key has asked for; a text that was typed on there is given up."""
         its = self.window, title, asked, answers, self._keep_at_offer
-        answer = ask(*its, self.held.holding)
+        answer = ask(*its, self.held.holding, *by_enter)
         if not self.is_ending:
             self._put_by_at_offer()
         return answer
@@ -1109,9 +1192,10 @@ class Desk:
 
         If one is chosen at first, letters look for others.
         """
-        taking = dialogs.taking(self._keep_at_offer)
+        keep, holding = self._keep_at_offer, self.held.holding
+        taking = typed_on.taking_at_names(keep, holding)
         if first is not None:
-            taking = dialogs.taking_at_search(self._keep_at_offer, names)
+            taking = typed_on.taking_at_search(keep, names, holding)
         with taking:
             name = dialogs.one_of(self.window, title, asked, names, first or 0)
         if not self.is_ending:
@@ -1128,6 +1212,8 @@ class Desk:
         """Shows lines that no key has asked for, once nobody types."""
         self.work.wait_for_pause()
         self.show_lines(title, lines)
+        # a screen reader read the first of them, and reads what came of it where the focus goes back to
+        self.window.tell(self.window.message.text)
 
     def show_lines(self, title: str, lines: Sequence[str]) -> None:
         """Shows lines that can be read one by one; a text that was typed on there is given up."""
@@ -1141,7 +1227,7 @@ class Desk:
 
     @contextmanager
     def _taking_at_lines(self) -> Iterator[None]:
-        with dialogs.taking_at_lines(self._keep_at_offer, self.held.holding):
+        with typed_on.taking_at_lines(self._keep_at_offer, self.held.holding):
             yield
         if not self.is_ending:
             self._put_by_at_offer(typed_at_lines)
@@ -1204,6 +1290,8 @@ class Desk:
         self.unsay(before)
         text, table = self.typed_text(), self.table_of_typed()
         self._see_put_in(text)
+        is_more = self.window.print.may_be_typed_again
+        self._set_aside(self._taken_back.see(text, self._typed_in_print(), is_more))
         self.keep_draft(self.draft())
         if not self.is_typed():
             self._preview = None
@@ -1232,10 +1320,12 @@ class Desk:
             self._typed_from = None
         elif text == self._put_in:
             self._typed_from = self._put_in_from
-        draft, taken = self.draft(), self._taken_back
-        if taken is not None and draft is not None and text == taken.text:
-            self._taken_back = None
-            self.unsay(self._of_taken_back)
+            # it stands there again
+            self.unsay(self._said_of_put_in)
+        draft = self.draft()
+        if draft is not None and text in self._given_up:
+            taken, said = self._given_up.pop(text)
+            self.unsay(said)
             take_up = partial(self.unsent.take_up, draft, taken)
             # what can't be kept is said where it is kept as what waits
             with suppress(NotKept):
@@ -1268,47 +1358,65 @@ class Desk:
         return before if self._typed_from is None else self._typed_from
 
     def type_anew(self) -> None:
-        """What is typed from now on is typed from the print as it is now."""
-        self._typed_from = self._put_in_from = self._taken_back = None
+        """What is typed from now on is typed from the print as it is now, and nothing before is taken back."""
+        self.window.print.have_kept()
+        self.give_up_taken_back()
+        self._typed_from = self._put_in_from = None
+        self._given_up = {}
 
     def put_in(self, text: str, before: str | None = None) -> None:
         """Has a text be in the print in place of what is there, typed before from a print."""
-        self._put_in, self._taken_back = text, None
+        self._put_in = text
         self._put_in_from = self._typed_from if before is None else before
         self.window.print.selectAll()
         self.window.print.put_in(text)
+        self._given_up = {}
 
     def take_typed_back(self) -> None:
         """Takes back what was typed last. A text that was put in isn't lost by that."""
         before = self.draft()
-        if not self.window.print.may_be_typed_again:
-            # what was taken back before that is typed again by no key
-            self._typed_whole, self._taken_back = before, None
         self.window.print.undo()
-        self._note_whole(self.draft())
         if before is None or self.draft() is not None or before.text != self._put_in:
             return
-        self._taken_back = before
-        said = f"Given up. The book is as it was. {self.put_by(before)}"
-        self._of_taken_back = visible(said)
+        said = self.given_up(before)
+        self._said_of_put_in = visible(said)
         self.say(said)
 
-    def _note_whole(self, now: Draft | None) -> None:
-        """Notes the longest of what was typed: what is taken back may be that it was taken away."""
-        whole = self._typed_whole
-        if now is not None and (whole is None or len(now.text) > len(whole.text)):
-            self._typed_whole = now
+    def given_up(self, draft: Draft) -> str:
+        """Gives up what is typed, with what was taken back of it, and gives what is said of that."""
+        whole = self._taken_back.whole(draft)
+        has = partial(self.typed_last.has, whole.text)
+        if whole.aim is Aim.AFTER and self.aside.result(has, False):
+            # it is kept as all that was typed last
+            self.have_wait(None)
+            return "Given up. The book is as it was. Ctrl+Shift+B brings it back."
+        said = f"Given up. The book is as it was. {self.put_by(whole)}"
+        self._given_up[whole.text] = whole, visible(said)
+        return said
 
     def give_up_taken_back(self) -> None:
-        """Gives up what was typed and taken back, which no key types again once more is taken back."""
-        whole, self._typed_whole = self._typed_whole, None
-        if whole is None or not self.window.print.may_be_typed_again:
-            return
-        if self._taken_back is None or self._taken_back.text != whole.text:
-            self._taken_back = whole
-            said = f"{typed_and_taken_back(whole.text)} {self.put_by(whole)}"
-            self._of_taken_back = visible(said)
-            self.say_after(said)
+        """Gives up what was typed and taken back, which no key types again once another print is shown."""
+        self._set_aside(self._taken_back.end())
+
+    def _keep_taken_back(self) -> None:
+        """Does the same as the window ends, where nobody is told any more."""
+        for draft in self._taken_back.end():
+            self.aside.post(partial(self.unsent.put_by, draft), lambda future: None)
+
+    def _set_aside(self, texts: Sequence[Draft]) -> None:
+        """Gives up texts that were taken back, unless they are given up already, and says so."""
+        known = tuple(self._given_up)
+        new = [t for t in texts if not any(t.text in each for each in known)]
+        said = " ".join(map(self._put_by_taken_back, new))
+        if said:
+            (self.say_after if self._is_acting else self.say)(said)
+
+    def _put_by_taken_back(self, draft: Draft) -> str:
+        how = self.aside.result(partial(self.unsent.put_by, draft), False)
+        how = how or "Ctrl+B brings it back."
+        said = f"{typed_and_taken_back(draft)} {how}"
+        self._given_up[draft.text] = draft, visible(said)
+        return said
 
     def settle(self) -> bool:
         """Keeps what is typed; whether nothing is typed any more that the book doesn't have."""
@@ -1350,7 +1458,6 @@ class Desk:
         self._is_showing = True
         self.window.print.put_caret(place)
         self._is_showing = False
-        self.window.print.have_kept()
         if done is None:
             self.show_reading(place)
         else:
@@ -1360,8 +1467,8 @@ class Desk:
         """The number of the chosen paragraph, once what was typed is kept."""
         if not self.settle():
             raise _Told
-        if self.number is None:
-            raise Stop(NO_PARAGRAPH)
+        if self.is_closed or self.number is None:
+            raise Stop(self.no_paragraph)
         return self.number
 
     def _typed_new(self, new: New, text: str) -> Done:
@@ -1370,12 +1477,27 @@ class Desk:
         return self.asked(lambda: self.book.done(command))
 
     def table_of_new(self) -> str:
-        """The table of a new paragraph: that of the chosen one, or else the book's first."""
+        """The table of a new paragraph: that of the chosen one, or else a chosen one, or the book's first."""
+        there, chosen = self.contents.tables, self._table_chosen
         if self.reading is not None:
             return self.reading.its.paragraph.table
-        if not self.contents.tables:
+        if not there:
             raise Stop("The book has no table yet. Ctrl+L puts one into it.")
-        return self.contents.tables[0]
+        return chosen if chosen in there else there[0]
+
+    def have_new_by(self, table: str, done: Done) -> None:
+        """Has new paragraphs of a book that has none be by a table, also one that is being typed."""
+        self._table_chosen = table
+        if self.new is None:
+            said = f"{done.said} Ctrl+Enter begins the first one."
+            self.show_done(replace(done, said=said))
+            return
+        self.contents, self.new = done.contents, replace(self.new, table=table)
+        self.window.print.describe(self.new.title)
+        self.window.print_label.setText(self.new.title)
+        self._preview = None
+        self._typed()
+        self.say(done.said)
 
     def after(self, new: New) -> After:
         """Where a new paragraph goes."""
@@ -1394,14 +1516,8 @@ class Desk:
         if not self.contents.paragraphs:
             # that there is none is no news any more
             self.say("")
-        where = "at the end of the book"
-        if new.paragraph is not None:
-            way = "after" if new.aim is Aim.AFTER else "before"
-            where = f"{way} paragraph {new.paragraph}"
-        said = f"A new paragraph {where}, table {new.table}"
-        window.print.describe(said)
-        window.print.setFocus()
-        window.print_label.setText(said)
+        window.print.describe(new.title)
+        window.print_label.setText(new.title)
         window.print.setReadOnly(False)
         self._is_showing = True
         try:
@@ -1412,11 +1528,14 @@ class Desk:
             self._is_showing = False
         if text:
             self.put_in(text)
+        # a screen reader may read once more what comes in after that
+        window.print.setFocus()
         self._unlinked()
 
     def leave_new(self) -> None:
         """Goes back to the paragraph beside which nothing was typed."""
         self.new = None
+        self.type_anew()
         self.keep_draft(None)
         self.show_reading(0)
 
@@ -1489,9 +1608,14 @@ class Desk:
         if self.reading is None and self.new is None:
             # it ended before a paragraph was shown, and nothing could be typed in this one
             self.show_reading(0)
+        elif self.new is None:
+            self.window.print_label.setText(self._head)
         # the place says no more of the book, and of what is typed not that Enter keeps it
         self.link()
         self.refuse(" ".join([*said, *more]))
+        if _LAST_IS_IN_IT in more:
+            # until more is typed
+            self._of_typed = _LAST_IS_IN_IT
 
     def _what_is_typed(self, lost: Lost) -> Sequence[str]:
         """Says where what is typed is, if anything is, once the book is closed."""
@@ -1504,7 +1628,7 @@ class Desk:
                 contents, rest = self.work.result(look)
                 if rest is None:
                     self._have_kept(contents)
-                    return ("What was typed last is in it.",)
+                    return (_LAST_IS_IN_IT,)
         if self.is_waiting():
             return (f"What is typed is kept in {self.drafts.place}.",)
         return (_ONLY_HERE,)
@@ -1519,7 +1643,7 @@ class Desk:
         elif reading is not None and not is_beside:
             its = replace(reading.its, text=self.typed_text(), braille=self.braille)
             self.reading = replace(reading, its=its)
-            self.window.print.have_kept()
+            self.type_anew()
         self.have_wait(None)
         self.wait_for_draft()
 
@@ -1537,6 +1661,7 @@ class Desk:
         """
         self.is_closed, self.loss, self._saved = False, "", None
         self.watch()
+        others = self._of_others()
         draft, new, number = self.draft(), self.new, self.number
         place, beside = self.window.print.place, self.beside
         before = self.before()
@@ -1549,11 +1674,12 @@ class Desk:
         self.beside = None
         if draft is None:
             self.keep_draft(None)
-            return ""
+            return others
         is_same = self.number != number or self.before() == before
         changed = "" if is_same else changed_since(draft, self.before())
         if beside is not None or changed:
-            return f"{what_for(draft)} isn't in the book.{changed} {self.put_by(draft)}"
+            its = f"{what_for(draft)} isn't in the book.{changed} {self.put_by(draft)}"
+            return f"{its} {others}".rstrip()
         if new is not None:
             self.begin_new(new, draft.text)
         elif self.number == number:
@@ -1562,25 +1688,35 @@ class Desk:
             table = draft.table or contents.tables[0]
             self.begin_new(New(Aim.AFTER, self.number, table), draft.text)
         self.window.print.put_caret(place)
-        return ""
+        return others
+
+    def _of_others(self) -> str:
+        """Gives up what waits of another session since the book was open here, and says so."""
+        self.aside.result(self.typed_last.begin, False)
+        found = self.aside.result(self.unsent.others, False)
+        if found is None:
+            return ""
+        draft, how = found
+        return f"{typed_by_others(draft.joined)} {how or 'Ctrl+B brings it back.'}"
 
     def _may_close(self) -> bool:
         """Whether the window may go: what is typed is kept in the book, or waits."""
         if self._is_acting:
             return False
         self.take_begun_word()
-        self._is_acting = True
+        self._is_acting, self._is_said = True, False
         try:
             may_close = self.is_waiting() if self.is_closed else self.settle()
+            self.give_up_taken_back()
         finally:
             self._is_acting = False
         if not may_close and not self.is_left():
-            self._say_meanwhile()
+            self.say_meanwhile()
             return False
         if self.unsent.unkept_said:
             self.unsay(visible(self.aside.result(self.unsent.keep_again, False)))
         if self.unsent.unkept and not self._is_given_up(self.unsent.unkept):
-            self._say_meanwhile()
+            self.say_meanwhile()
             return False
         self.held.end()
         return True

@@ -12,6 +12,7 @@ from PyQt6.QtCore import (
     QItemSelectionModel,
     QMimeData,
     QModelIndex,
+    QObject,
     Qt,
     QTimer,
     pyqtSignal,
@@ -31,11 +32,14 @@ from PyQt6.QtGui import (
     QTextCharFormat,
     QTextCursor,
     QTextDocumentFragment,
+    QWindow,
 )
 from PyQt6.QtWidgets import QFrame, QPlainTextEdit, QTextEdit
 
 from braildesk.text import limits
 from braildesk.text.spans import Span
+
+from scribe.words.typed_last import PARTED
 
 #: The characters that may be typed in one paragraph until Enter parts it, and that may be pasted as
 #: lines: Qt lays a paragraph out anew at each key, and what is typed has to have room where it waits.
@@ -49,6 +53,15 @@ _LEAST_LINES = 2
 _BEYOND = "\U00010000"
 #: The keys of Enter.
 ENTER = Qt.Key.Key_Return, Qt.Key.Key_Enter
+# keys that may go elsewhere, where what is typed is no part of the word before it
+_ELSEWHERE = frozenset(
+    (
+        *(Qt.Key.Key_Tab, Qt.Key.Key_Backtab, Qt.Key.Key_Escape),
+        *(Qt.Key.Key_Left, Qt.Key.Key_Right, Qt.Key.Key_Up, Qt.Key.Key_Down),
+        *(Qt.Key.Key_Home, Qt.Key.Key_End, Qt.Key.Key_PageUp, Qt.Key.Key_PageDown),
+        *(Qt.Key(number) for number in range(Qt.Key.Key_F1, Qt.Key.Key_F12 + 1)),
+    )
+)
 #: What Qt puts where a line of a text ends.
 LINE_END = "\u2029"
 _LINE_END = re.compile(f"\r\n|[\r\n{LINE_END}]")
@@ -90,7 +103,8 @@ class Field(QPlainTextEdit):
         self._lights: tuple[Sequence[Span], Span | None] = (), None
         self._font: QFont | None = None
         super().__init__()
-        self._described = ""
+        #: What a screen reader says that this is.
+        self.described = ""
         self.selectionChanged.connect(lambda: self.light(*self._lights))
         self._frame(False)
         self.setAccessibleName(name)
@@ -110,7 +124,7 @@ class Field(QPlainTextEdit):
 
     def describe(self, said: str) -> None:
         """Has a screen reader say what this is, each time it takes the focus."""
-        self._described = said
+        self.described = said
         self.setAccessibleDescription(said)
 
     def focusInEvent(self, event: QFocusEvent | None) -> None:
@@ -124,7 +138,7 @@ class Field(QPlainTextEdit):
         if event is not None:
             super().focusOutEvent(event)
             self._frame(False)
-            self.setAccessibleDescription(self._described)
+            self.setAccessibleDescription(self.described)
 
     def show_in(self, family: str, size: float) -> None:
         """Shows the text in a font, of a size in points."""
@@ -170,6 +184,14 @@ class Field(QPlainTextEdit):
         return document.toRawText()
 
     @property
+    def line(self) -> str:
+        """The line in which the caret stands, as it is shown."""
+        cursor, kinds = self.textCursor(), QTextCursor.MoveOperation
+        cursor.movePosition(kinds.StartOfLine)
+        cursor.movePosition(kinds.EndOfLine, QTextCursor.MoveMode.KeepAnchor)
+        return cursor.selectedText()
+
+    @property
     def place(self) -> int:
         """The character on which the caret stands."""
         return characters(self.text, self.textCursor().position())
@@ -182,8 +204,8 @@ class Field(QPlainTextEdit):
         return Span(start, characters(text, cursor.selectionEnd()))
 
     def show_text(self, text: str) -> None:
-        """Shows another text, if it is another one."""
-        if text != self.text:
+        """Shows another text, if it is another one, of one line or of several."""
+        if text.replace("\n", LINE_END) != self.text:
             self.setPlainText(text)
 
     def put_caret(self, place: int) -> None:
@@ -203,6 +225,21 @@ class Field(QPlainTextEdit):
         cursor.setPosition(units(text, span.stop))
         cursor.setPosition(units(text, span.start), QTextCursor.MoveMode.KeepAnchor)
         self.setTextCursor(cursor)
+
+    def show_on_display(self) -> None:
+        """Has a display of braille show this again, as where something comes to be selected, or not any more."""
+        now, other = self.textCursor(), self.textCursor()
+        place = now.position()
+        other.setPosition(place - 1 if place else min(1, len(self.text)))
+        other.setPosition(place, QTextCursor.MoveMode.KeepAnchor)
+        if now.hasSelection():
+            other.clearSelection()
+        self.blockSignals(True)
+        try:
+            self.setTextCursor(other)
+            self.setTextCursor(now)
+        finally:
+            self.blockSignals(False)
 
     def light(self, marked: Sequence[Span], lit: Span | None) -> None:
         """Underlines what is marked, and lights what belongs to the caret, for the eye alone.
@@ -268,6 +305,8 @@ class Field(QPlainTextEdit):
 class Print(Field):
     """The print of a paragraph, which is typed."""
 
+    #: A text was pasted or dropped, whatever becomes of it.
+    text_came = pyqtSignal(str)
     #: Several lines were pasted, or dropped, with an empty one after them if the last was ended, or a
     #: blank; or files; or what has no text.
     pasted = pyqtSignal(list)
@@ -335,6 +374,7 @@ class Print(Field):
             self.files_pasted.emit(files)
             return
         text = text_of(source)
+        self.text_came.emit(text)
         if not text:
             self.nothing_pasted.emit()
             return
@@ -446,6 +486,10 @@ class Print(Field):
         return source is not None and is_text and not source.hasUrls()
 
 
+class Read(Field):
+    """Lines of a dialog, in which nothing is typed."""
+
+
 class Cells(Field):
     """The cells of a paragraph, where a letter is a key of the desk."""
 
@@ -465,6 +509,19 @@ def is_letter(event: QKeyEvent) -> bool:
     held = keys.ControlModifier | keys.AltModifier | keys.MetaModifier
     text = event.text()
     return bool(text) and text.isprintable() and not event.modifiers() & held
+
+
+def typed_by(event: QEvent | None, to: QObject | None) -> str:
+    """What a key types in a window, whatever it is for there, or what an input method hands over."""
+    if isinstance(event, QInputMethodEvent):
+        return event.commitString()
+    if not (isinstance(event, QKeyEvent) and isinstance(to, QWindow)):
+        return ""
+    if event.type() != QEvent.Type.KeyPress:
+        return ""
+    if event.key() in ENTER:
+        return "\n"
+    return event.text() if is_letter(event) else PARTED * (event.key() in _ELSEWHERE)
 
 
 def frame(area: QFrame, has_focus: bool) -> int:

@@ -9,7 +9,7 @@ from braildesk.text.spans import Span, find_spans
 
 from scribe.window import dialogs
 from scribe.window.arriving import say_there
-from scribe.window.desk import NO_PARAGRAPH, Desk
+from scribe.window.desk import Desk
 from scribe.words.paragraph import quoted
 from scribe.words.status import Stop
 
@@ -59,7 +59,7 @@ class Finding:
         here = search.Spot(max(0, desk.row), self._place(is_cells))
         contents = desk.contents
         if not contents.paragraphs:
-            raise Stop(NO_PARAGRAPH)
+            raise Stop(desk.no_paragraph)
         if is_cells:
             try:
                 found = desk.asked(lambda: desk.book.next_cells(contents, here, sought))

@@ -3,7 +3,7 @@
 import math
 import time
 from collections import deque
-from collections.abc import Iterator
+from collections.abc import Callable, Iterator
 from contextlib import contextmanager
 from typing import TypeGuard
 
@@ -12,7 +12,7 @@ from PyQt6.QtGui import QGuiApplication, QInputMethodEvent, QKeyEvent, QWindow
 from PyQt6.QtWidgets import QApplication, QWidget
 from PyQt6.sip import isdeleted
 
-from scribe.window.fields import ENTER, is_letter
+from scribe.window.fields import ENTER, is_letter, typed_by
 
 _KINDS = QEvent.Type
 # what comes to a window by hands
@@ -72,6 +72,8 @@ class Held(QObject):
 
     def __init__(self) -> None:
         super().__init__()
+        #: What notes all that is typed, whatever becomes of it.
+        self.note: Callable[[str], None] = lambda text: None
         # each with the dialog over the window as it came
         self._events: deque[tuple[QWidget | None, QObject, QEvent]] = deque()
         # whether all text of it came after the key that is obeyed, or in a line that this opened
@@ -153,6 +155,7 @@ class Held(QObject):
         What they drag isn't taken, and stays where it comes from.
         """
         is_obeyed = event is self._obeyed
+        self.note("" if is_obeyed else typed_by(event, to))
         if isinstance(to, QWindow) and not is_obeyed and _is_of_text(event):
             self._typed_at = time.monotonic()
         if isinstance(event, QKeyEvent) and not is_obeyed and self._is_held_down(event):

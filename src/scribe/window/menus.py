@@ -45,6 +45,7 @@ MENUS: Mapping[str, tuple[Item | None, ...]] = {
         Item("keep", "&Keep what is typed", "Enter"),
         Item("give_up", "&Give up what is typed", "Esc"),
         Item("bring_back", "&Bring back a text…", "Ctrl+B", "U"),
+        Item("bring_typed", "A&ll that was typed last", "Ctrl+Shift+B"),
         None,
         Item("copy_unicode", "Copy the braille as &Unicode", "Ctrl+Shift+U"),
         Item("copy_ascii", "Copy the braille as Braille &ASCII", "Ctrl+Shift+C"),
@@ -109,7 +110,16 @@ class _Bar(QMenuBar):
         return False
 
     def open_first(self) -> None:
-        """Opens the first menu, on its first action."""
+        """Opens the first menu, on its first action.
+
+        The bar has the focus before that, as after Alt alone. Else what had it would be told to have it
+        again each time another menu is opened.
+        """
+        if not self.hasFocus():
+            # Qt changes by itself whether Alt is held, where that is the key
+            key, held = Qt.Key.Key_Alt, Qt.KeyboardModifier.NoModifier
+            for kind in (QEvent.Type.ShortcutOverride, QEvent.Type.KeyRelease):
+                super().eventFilter(self, QKeyEvent(kind, key, held))
         first = self.actions()[0]
         self.setActiveAction(first)
         menu = first.menu()

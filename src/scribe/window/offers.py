@@ -3,19 +3,22 @@
 from collections.abc import Sequence
 from pathlib import Path
 
+from braildesk import Paragraph
 from braildesk.desk.change_note import Became, ChangeNote
 from braildesk.desk.changed_so_far import left_open, wanted_by
 from braildesk.desk.draft import Draft
 from braildesk.desk.drafts import NotKept
 from braildesk.desk.earlier import PartIsThere, to_go_on
+from braildesk.desk.import_note import ImportNote
 from braildesk.desk.unfinished import NotSeen, Unfinished
 
 from scribe.window.changing import Changing
 from scribe.window.desk import Desk
 from scribe.window.files import Files
-from scribe.window.typed import Typed, in_short
+from scribe.window.typed import Typed
 from scribe.words.change_all import STAY, cut_short
 from scribe.words.drafts import (
+    in_short,
     is_in_book,
     not_kept,
     taken_back_in_part,
@@ -23,7 +26,8 @@ from scribe.words.drafts import (
     where_typed,
     words_wait,
 )
-from scribe.words.import_text import came_to, not_seen
+from scribe.words.console import WAITING
+from scribe.words.import_text import came_to, not_seen_yet, read_again
 from scribe.words.links import led
 
 
@@ -58,19 +62,32 @@ class Offers:
             self._offer_first(waiting)
             desk.say_too(notices)
         contents = desk.contents
-        found = desk.asked(
-            lambda: to_go_on(desk.drafts, desk.book.session, contents.paragraphs)
-        )
-        for each in found:
+        for each in self._to_go_on(contents.paragraphs):
             match each:
                 case Unfinished():
                     desk.say(came_to(each))
                     self._files.decide(Path(each.note.text), PartIsThere(each), True)
                 case NotSeen():
-                    desk.say_too(not_seen(each))
+                    desk.say_too(not_seen_yet(each, "Ctrl+I"))
                 case NotKept():
                     desk.say_too(not_kept(each))
         self._offer_changes()
+
+    def _to_go_on(
+        self, book: Sequence[Paragraph]
+    ) -> Sequence[Unfinished | NotSeen | NotKept]:
+        """The imports that were cut short; a document of which one was is read again, which is said."""
+        desk = self.desk
+
+        def reading(note: ImportNote) -> None:
+            desk.waits_for = read_again(note)
+
+        try:
+            return desk.asked(
+                lambda: to_go_on(desk.drafts, desk.book.session, book, reading)
+            )
+        finally:
+            desk.waits_for = WAITING
 
     def _read(self) -> str:
         """Reads what waits from before, and gives what is said of it before anything is asked."""
@@ -82,6 +99,7 @@ class Offers:
         except NotKept as fault:
             said.append(not_kept(fault))
         said += map(not_kept, desk.aside.result(desk.unsent.read))
+        desk.typed_last.begin()
         if desk.unsent.came_last:
             said.append(f"{desk.unsent.came_last} Ctrl+B brings it back.")
         words = desk.aside.result(desk.drafts.words)

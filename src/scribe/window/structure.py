@@ -57,17 +57,23 @@ class Structure:
         self.desk.do(requests.Volume(number, begins))
 
     def table(self) -> None:
-        """Asks for a table, and gives it to the chosen paragraph."""
+        """Asks for a table, and gives it to the chosen paragraph, or to new ones in a book that has none."""
         desk = self.desk
-        if not desk.settle():
+        # which refuses what is typed where that is by another table
+        is_first = desk.new is not None and not desk.contents.paragraphs
+        if not is_first and not desk.settle():
             return
+        if desk.is_closed:
+            raise Stop(desk.closed)
         its = desk.reading.its.paragraph if desk.reading else None
         if its is not None and its.struck:
             raise Stop(f"Paragraph {its.id} {STRUCK}")
         there = list(desk.contents.tables)
         others = [n for n in (SUPPLIED, *table_names()) if n not in there]
         names = [*there, *others, _FROM_A_FILE]
-        first = names.index(its.table) if its else 0
+        first = (
+            names.index(desk.table_of_typed() or desk.table_of_new()) if there else 0
+        )
         where = f"paragraph {its.id}" if its else "new paragraphs"
         name = desk.one_of("Table", f"The table of {where}:", names, first)
         path = None
@@ -96,8 +102,6 @@ class Structure:
     def _give(self, number: int | None, name: str, path: Path | None) -> None:
         """Gives a paragraph a table, which takes a while if it is in many paragraphs already."""
         desk = self.desk
-        if desk.is_closed:
-            raise Stop(desk.closed)
 
         def act(say: Say, is_stopped: IsStopped) -> Done:
             def go_on(step: str) -> bool:
@@ -107,7 +111,11 @@ class Structure:
             return desk.book.with_table(number, name, path, go_on)
 
         try:
-            desk.show_done(desk.long("Table", act))
+            done = desk.long("Table", act)
+            if number is None:
+                desk.have_new_by(name, done)
+            else:
+                desk.show_done(done)
         except NotAll as part:
             desk.show(desk.asked(desk.book.contents), None)
             assert number is not None and isinstance(part.cause, Refused)

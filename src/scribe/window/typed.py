@@ -4,18 +4,17 @@ import signal
 from collections.abc import Callable, Sequence
 from contextlib import suppress
 from dataclasses import replace
-from os.path import commonprefix
 from typing import Any
 
 from PyQt6.QtCore import QTimer
 
 from braildesk import After, Kind, Refused, requests
+from braildesk.desk.changed_so_far import end_taken_back
 from braildesk.desk.draft import Aim, Draft
 from braildesk.desk.drafts import NotKept
 from braildesk.desk.kept_lines import LinesLeft
 from braildesk.protocol.requests import Command
 from braildesk.text import limits
-from braildesk.text.characters import visible
 from braildesk.text.sequences import composed, parted
 
 from scribe.window.book import Done, NotAll, NothingToTakeBack, ChosenParagraph
@@ -27,6 +26,7 @@ from scribe.words.deeds import Deed
 from scribe.words.drafts import (
     beside_struck,
     changed_since,
+    in_short,
     not_kept,
     what_for,
     while_struck,
@@ -34,11 +34,13 @@ from scribe.words.drafts import (
 )
 from scribe.words.paragraph import part_of, quoted
 from scribe.words.status import Interrupted, Stop
+from scribe.words.typed_last import BROUGHT, NOTHING
 
 _NOT_YET = (
     "Nothing was taken back: what is typed isn't in the book yet. Enter keeps it, and Escape gives it"
     " up."
 )
+_NOT_ADDED = "This paragraph was empty, and wasn't added."
 # what lines may be
 _PARAGRAPHS, _ONE = "&Paragraphs", "&One paragraph"
 
@@ -65,7 +67,6 @@ class Typed:
             # the book would have it for a moment, and nobody after that
             self.give_up()
             return
-        desk.give_up_taken_back()
         if not desk.settle() or not self._is_taken_back():
             return
 
@@ -93,6 +94,14 @@ class Typed:
         return 2 * sum(each.kind is Kind.UNDO for each in history) < len(history)
 
     def _back(self, say: Say, is_stopped: IsStopped) -> Done:
+        """Takes back what was done last; words that were being changed aren't any more then."""
+        desk, deed = self.desk, self.desk.book.last_deed
+        done = self._noted_back(say, is_stopped)
+        if deed is not None and deed.wanted is not None:
+            end_taken_back(desk.book.session, desk.drafts, deed.wanted)
+        return done
+
+    def _noted_back(self, say: Say, is_stopped: IsStopped) -> Done:
         """Takes back what was done last, and notes how far that is where it takes many commands."""
         desk = self.desk
 
@@ -137,7 +146,11 @@ class Typed:
             desk.until_typed()
             return
         is_empty = not desk.typed_text().strip()
-        if desk.settle() and new is not None and not is_empty:
+        if not desk.settle() or new is None:
+            return
+        if is_empty:
+            desk.say(_NOT_ADDED)
+        else:
             desk.begin_new(New(Aim.AFTER, desk.number, desk.table_of_new()))
 
     def _is_parted(self) -> bool:
@@ -177,26 +190,31 @@ class Typed:
         draft, focused = desk.draft(), desk.window.focusWidget()
         if draft is None and desk.new is not None:
             desk.leave_new()
-            desk.say("This paragraph was empty, and wasn't added.")
+            desk.say(_NOT_ADDED)
             return
         if draft is None:
+            if desk.is_typed():
+                # all of it was taken away, which is over
+                desk.type_anew()
             desk.show_reading(desk.window.print.place)
             if focused is not desk.window.print:
                 desk.go_back()
             return
         # of a new paragraph the print is another one
         place = 0 if desk.new else desk.as_before(desk.window.print.place)
-        back = desk.put_by(draft)
+        said = desk.given_up(draft)
         desk.new = None
         desk.type_anew()
         desk.show_reading(place)
-        desk.say(f"Given up. The book is as it was. {back}")
+        desk.say(said)
 
     def bring_back(self) -> None:
         """Asks which text that was given up is typed further."""
         desk = self.desk
         if not desk.settle():
             return
+        # before it may be so no more
+        desk.say_meanwhile()
         texts = desk.aside.result(desk.unsent.texts, False)
         if not texts:
             raise Stop("No text is set aside in this book.")
@@ -217,6 +235,19 @@ class Typed:
             if desk.is_typed():
                 desk.say_too(changed.lstrip())
 
+    def bring_typed(self) -> None:
+        """Has a new paragraph be typed with all that keys typed last."""
+        desk = self.desk
+        text = desk.typed_last.bring()
+        if not text:
+            raise Stop(NOTHING)
+        # what was said of another text isn't so of this one
+        desk.say("")
+        if desk.settle():
+            table = desk.table_of_new()
+            self.type_further(Draft(Aim.AFTER, desk.number, table, "", text))
+            desk.say_too(BROUGHT)
+
     def changed_since(self, draft: Draft) -> str:
         """That the print at which a text was typed is another since, struck or gone; or nothing."""
         desk, row = self.desk, self.desk.contents.place(draft.paragraph)
@@ -225,8 +256,14 @@ class Typed:
         session, its = desk.book.session, desk.contents.paragraphs[row]
         if its.struck and draft.aim is Aim.EDIT:
             return beside_struck(its.id)
-        changed = changed_since(draft, desk.asked(lambda: session.print_of(its.id)))
-        is_kept_out = its.struck and draft.aim is Aim.NOTE
+        reading, is_note = desk.reading, draft.aim is Aim.NOTE
+        if reading is not None and its.id == desk.number and not is_note:
+            # a text goes in there also where the book is closed
+            now = reading.its.text
+        else:
+            now = desk.asked(lambda: session.print_of(its.id))
+        changed = changed_since(draft, now)
+        is_kept_out = its.struck and is_note
         return changed + while_struck(its.id) if is_kept_out else changed
 
     def type_further(self, draft: Draft) -> None:
@@ -252,8 +289,9 @@ class Typed:
         """Goes to the paragraph of a text, and gives the new one that it will be; none if it isn't."""
         desk = self.desk
         row = desk.contents.place(draft.paragraph)
+        is_begun = draft.aim.is_new and "\n" not in draft.text
         if row is not None:
-            desk.choose(row)
+            desk.choose(row, is_shown=not is_begun)
         is_of_it = row is not None and not draft.aim.is_new
         if is_of_it and (draft.aim is Aim.NOTE or not desk.window.print.isReadOnly()):
             return None
@@ -267,8 +305,9 @@ class Typed:
         if new is not None:
             desk.begin_new(new, text)
         else:
-            desk.window.print.setFocus()
             desk.put_in(text, before)
+            # a screen reader may read once more what comes in after that
+            desk.window.print.setFocus()
 
     def _lines_further(
         self, draft: Draft, new: New | None, lines: Sequence[str]
@@ -534,20 +573,6 @@ class Typed:
             desk.beside = left
             with suppress(NotKept):
                 desk.unsent.keep(left)
-
-
-def in_short(draft: Draft) -> str:
-    """The first words of a text, or those from where it isn't as the print where it was typed was.
-
-    Of two texts of a long paragraph the first words are the same.
-    """
-    text = draft.joined
-    first, same = quoted(text), len(commonprefix((text, draft.before)))
-    is_seen = first == f"“{visible(text)}”" or same < len(first) - len("“…”")
-    if draft.aim is not Aim.EDIT or is_seen:
-        return first
-    # a word that is another one in its middle is told whole
-    return quoted(f"… {text[text.rfind(' ', 0, same) + 1 :]}")
 
 
 def _pieces(text: str) -> list[str]:

@@ -6,7 +6,7 @@ from braildesk.text.cells import braille_ascii
 
 from scribe.window import dialogs
 from scribe.window.book import LEFT
-from scribe.window.desk import CLOSED, NO_PARAGRAPH, Desk
+from scribe.window.desk import CLOSED, Desk
 from scribe.window.menus import key_lines
 from scribe.words.pages import NoSize, described, typed_page_size
 from scribe.words.paragraph import counted
@@ -119,7 +119,9 @@ class View:
     def _cells_to_copy(self) -> str:
         cells, selected = self.desk.braille, self.desk.window.cells.selected
         if self.desk.reading is None and self.desk.new is None:
-            raise Stop(NO_PARAGRAPH)
+            raise Stop(self.desk.no_paragraph)
+        if not cells:
+            raise Stop("There are no cells here, so nothing was copied.")
         part = cells[selected.start : selected.stop]
         return part or cells
 

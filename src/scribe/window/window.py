@@ -33,6 +33,7 @@ from braildesk.text.spans import Span
 from scribe.window.fields import AROUND, Cells, Field, Print, take_copy
 from scribe.window.menus import Menus
 from scribe.window.paragraphs import WORDS, Paragraphs, Table
+from scribe.window.spoken import Spoken
 
 #: Round dots, and cells that are all equally wide.
 CELLS_FONT = "DejaVu Serif"
@@ -91,6 +92,8 @@ class Window(QMainWindow):
         self.print_label = QLabel()
         # at once, since keys that came with this one are obeyed before what is done later
         self.menus = Menus(self, {**acts, "leave": self.close})
+        self.spoken = Spoken(self)
+        self.print.entered.connect(self.spoken.note_enter)
         self._lay_out()
         self._settings = QSettings("braildesk", "window")
         self._restore()
@@ -184,17 +187,21 @@ class Window(QMainWindow):
             column.addWidget(part)
         return whole
 
-    def tell(self, sentence: str) -> None:
+    def tell(self, sentence: str, is_besides: bool = False) -> None:
         """Shows something in the message. A screen reader says it too where a text takes the focus.
 
-        It does so at once where the paragraphs have it.
+        It does so at once where the paragraphs have it, and where a text has it still. What is said
+        besides what is done is said after what the text is by that.
         """
         self.message.show_text(sentence)
         focused = self.focusWidget()
         if focused is self.table:
             self.table.tell(sentence)
         if isinstance(focused, Field) and focused is not self.message:
+            if is_besides:
+                sentence = self.spoken.after_news(focused, sentence)
             focused.setAccessibleDescription(sentence)
+            self.spoken.note(sentence)
 
     def choose(self, row: int) -> None:
         """Chooses a paragraph in the table."""

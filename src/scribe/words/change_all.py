@@ -214,11 +214,12 @@ def how_many(wanted: Replacement, found: Iterable[Proposal]) -> str:
     numbers: list[int] = []
     for each in found:
         (struck if each.is_struck else numbers).append(each.paragraph)
+    how, of = ("changed", "in") if wanted.new else ("taken out", "of")
     where = "nowhere"
     if numbers:
         places = _places_of(numbers, "paragraph")
-        where = f"in {places}, unless the book refuses a place"
-    said = f"{quoted(wanted.old)} would be changed {where}."
+        where = f"{of} {places}, unless the book refuses a place"
+    said = f"{quoted(wanted.old)} would be {how} {where}."
     if struck:
         said += f" {_places_of(struck, 'struck paragraph')} would be refused."
     return said

@@ -5,6 +5,7 @@ from dataclasses import dataclass, replace
 from typing import Any
 
 from braildesk import After, Mark, Paragraph, Style, requests
+from braildesk.desk.change_all import Replacement
 from braildesk.protocol.requests import Command
 from braildesk.text.spans import Span
 
@@ -29,6 +30,8 @@ class Deed:
     mark: int | None = None
     #: How many of its changes were taken back before those that are left.
     taken: int = 0
+    #: The words that were replaced wherever they stand, if any were.
+    wanted: Replacement | None = None
 
     @property
     def is_edit(self) -> bool:

@@ -3,6 +3,7 @@
 from collections.abc import Callable, Iterable, Sequence
 from contextlib import suppress
 from dataclasses import replace
+from os.path import commonprefix
 from pathlib import Path
 from time import time_ns
 
@@ -18,6 +19,7 @@ from braildesk.desk.drafts import (
 )
 from braildesk.protocol.sentences import of_failure
 from braildesk.text import limits
+from braildesk.text.characters import visible
 
 from scribe.words.paragraph import counted, quoted
 
@@ -35,6 +37,7 @@ _BEGUN = {
     Begun.LINES: "What is typed at the prompt",
     Begun.CHANGES: "How far the change of words comes",
     Begun.BACK: "How far the taking back comes",
+    Begun.TYPED_LAST: "What is typed last",
 }
 # where a text is that can't be kept among those given up
 _HERE_ONLY = "It is here only until scribe ends."
@@ -67,6 +70,20 @@ def what_for(draft: Draft) -> str:
     if draft.aim.is_new:
         return "A text of a new paragraph"
     return f"A text of paragraph {draft.paragraph}" if draft.paragraph else "A text"
+
+
+def in_short(draft: Draft) -> str:
+    """The first words of a text, or those from where it isn't as the print where it was typed was.
+
+    Of two texts of a long paragraph the first words are the same.
+    """
+    text = draft.joined
+    first, same = quoted(text), len(commonprefix((text, draft.before)))
+    is_seen = first == f"“{visible(text)}”" or same < len(first) - len("“…”")
+    if draft.aim is not Aim.EDIT or is_seen:
+        return first
+    # a word that is another one in its middle is told whole
+    return quoted(f"… {text[text.rfind(' ', 0, same) + 1 :]}")
 
 
 def changed_since(draft: Draft, now: str) -> str:
@@ -120,15 +137,29 @@ def is_in_book(draft: Draft, where: str, numbers: Sequence[int]) -> str:
 
 
 def came_last(text: str) -> str:
-    """That a text which came while the program was waited for is among those given up."""
+    """That a text which came while nothing could be done with it is among those given up."""
     joined = text.replace("\n", " ")
-    return f"What came while braildesk didn't answer is set aside: {quoted(joined)}."
+    return f"What was typed while scribe was busy is set aside: {quoted(joined)}."
+
+
+def typed_by_others(text: str) -> str:
+    """That a text which was typed in another session of the book is among those given up."""
+    return f"What was typed elsewhere meanwhile is set aside: {quoted(text)}."
 
 
 def typed_at_offer(text: str) -> str:
     """That a text which was typed where something was asked is among those given up."""
     joined = text.replace("\n", " ")
     return f"What was typed at the question is set aside: {quoted(joined)}."
+
+
+def typed_unasked(text: str) -> str:
+    """That a text is given up which was typed at a question, or where lines were read, before a kill.
+
+    Which of these it was isn't known any more.
+    """
+    joined = text.replace("\n", " ")
+    return f"What was typed where no text was asked for is set aside: {quoted(joined)}."
 
 
 def typed_at_lines(text: str) -> str:
@@ -142,9 +173,9 @@ def typed_meanwhile(text: str) -> str:
     return f"What was typed before this was shown is set aside: {quoted(text)}."
 
 
-def typed_and_taken_back(text: str) -> str:
+def typed_and_taken_back(draft: Draft) -> str:
     """That a text which was typed and taken back is given up, since no key types it again."""
-    return f"What was typed before that is set aside: {quoted(text)}."
+    return f"What was typed and taken back is set aside: {in_short(draft)}."
 
 
 def typed_below(text: str) -> str:
@@ -231,6 +262,8 @@ class Unsent:
         self.unkept_said = ""
         # what was given up before and had no room any more, the newest first
         self._older: tuple[Draft, ...] = ()
+        # what is typed further and wasn't taken out of those given up yet
+        self._taken_up: list[Draft] = []
 
     def read(self) -> tuple[NotKept, ...]:
         """Reads what waits from before, and gives what of it can't be read."""
@@ -260,6 +293,24 @@ class Unsent:
         self._put_off = self._drafts.later()
         self._later = tuple(each for each in self._put_off if each != self.waiting)
         self._left = max((each.left or 0 for each in self._put_off), default=0)
+
+    def others(self) -> tuple[Draft, str] | None:
+        """Gives up the text that another session had wait while the book wasn't open here, if one did.
+
+        It is given with what is in the way of that. What waits here is kept anew in its place.
+        """
+        its = self.waiting
+        with suppress(NotKept):
+            found = self._drafts.waiting()
+            if found == its or found and its and found.is_same_as(its):
+                return None
+            self._read_later()
+            how = self.put_by(found) if found else ""
+            if not self.unkept:
+                self._drafts.save(its) if its else self._drafts.clear()
+            return (found, how) if found else None
+        # what can't be read or kept is said where something is kept
+        return None
 
     def look_elsewhere(self, print_of: Callable[[int], str | None]) -> None:
         """Has a text wait that was typed at a print of this book, where no book is any more."""
@@ -293,7 +344,7 @@ class Unsent:
                 self._here.insert(0, draft)
                 self._drafts.keep_unread(replace(unread, lines="", rest=draft))
                 raise
-            said = typed_at_offer if unread.is_at_offer else came_last
+            said = typed_unasked if unread.is_at_offer else came_last
             self.came_last = said(text)
         self._unread = unread
         self.keep_unread(None)
@@ -316,6 +367,8 @@ class Unsent:
             self._have_wait(wanted)
         # after that: one that waits by now is among them until it does
         self._keep_later(each for each in self._later if each != wanted)
+        with suppress(NotKept):
+            self._take_out()
 
     def _next(self) -> Draft | None:
         """The text that waits once nothing is typed: of those that were left for later the newest."""
@@ -412,6 +465,7 @@ class Unsent:
         draft = self._left_now(draft)
         self._forget(draft)
         self._here = _without(draft, self._here)
+        self._taken_up = _without(draft, self._taken_up)
         try:
             older = self._drafts.put_by(draft)
         except NotKept as fault:
@@ -453,8 +507,15 @@ class Unsent:
         # it isn't given up any more, whether or not it can be kept while it is typed
         self._here = _without(before, self._here)
         self._older = tuple(_without(before, self._older))
+        self._taken_up = [before, *_without(before, self._taken_up)]
         self.keep(draft)
-        self._drafts.take_out(before)
+        self._take_out()
+
+    def _take_out(self) -> None:
+        """Takes what is typed further out of those given up, while all are kept; may raise `NotKept`."""
+        for draft in () if self._here else tuple(self._taken_up):
+            self._drafts.take_out(draft)
+            self._taken_up = _without(draft, self._taken_up)
 
     def _forget(self, draft: Draft) -> None:
         """A text that was left for later isn't any more."""
@@ -470,6 +531,8 @@ class Unsent:
                 raise
             kept = ()
         found: dict[object, Draft] = {}
+        out = {each.known_by for each in self._taken_up}
+        kept = tuple(each for each in kept if each.known_by not in out)
         texts = (*first, *kept, *self._older)
         for each in sorted(texts, key=lambda its: -(its.left or 0)):
             # of those that are the same it is the newest

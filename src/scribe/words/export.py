@@ -2,11 +2,11 @@
 
 import os
 from collections.abc import Callable, Iterator, Sequence
-from contextlib import ExitStack, contextmanager
+from contextlib import ExitStack, contextmanager, suppress
 from dataclasses import replace
 from pathlib import Path
 
-from braildesk import DeskError, Displaced, Lost, Session, check
+from braildesk import CannotOpen, DeskError, Displaced, Lost, Session, check
 from braildesk.desk.export import (
     BookChanges,
     Differences,
@@ -23,7 +23,7 @@ from braildesk.desk.export import (
 from braildesk.desk.ranges import NoPage, PageRange
 from braildesk.opening import is_of_system
 from braildesk.protocol.sentences import of_failure
-from braildesk.workshop import MayNotLast, Swapped
+from braildesk.workshop import MayNotLast, OthersLink, Swapped
 
 from scribe.words.console import Console, OutputFailed
 from scribe.words.paragraph import counted
@@ -48,19 +48,20 @@ def copy_of_open(
     # imported here, since a command of the shell needs it for few books
     from braildesk.snapshot import copied
 
-    copy = None
+    copy = made = None
     with ExitStack() as stack:
         try:
-            made = stack.enter_context(copied(path))
-            # it is of this book if that is open still, and at its path
+            with suppress(CannotOpen):
+                # where another one stands at the path, it is seen below whether it does so still
+                made = stack.enter_context(copied(path, session.fileno()))
             version = session.version()
             session.tables()
-            # and all of it, where its log wasn't taken away
-            if check(made, while_waiting=judge) == version:
+            # it has all of the book, where its log wasn't taken away
+            if made is not None and check(made, while_waiting=judge) == version:
                 copy = made
         except Lost:
             raise
-        except (DeskError, OSError, Interrupted):
+        except (DeskError, OSError, ValueError, Interrupted):
             # as if the temporary folder has no room: others may have the book then
             pass
         yield copy
@@ -168,6 +169,11 @@ def no_folder(none: NoFolder) -> str:
 
 
 def _why_no_folder(none: NoFolder) -> str:
+    if isinstance(none.cause, OthersLink):
+        return (
+            f"The link “{none.cause.link}” is another user's, and no pages are written through it. Take"
+            " the path to which it leads, if that is what you mean, or another one."
+        )
     if isinstance(none.cause, FileExistsError):
         return f"{none.folder} is no folder."
     if isinstance(none.cause, OSError) and is_of_system(str(none.folder)):

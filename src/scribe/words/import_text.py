@@ -22,6 +22,7 @@ from braildesk.desk.earlier import (
     AllThere,
     NoneCutShort,
     PartIsThere,
+    PartUnseen,
     StandsThere,
     Undecided,
     Way,
@@ -65,7 +66,7 @@ from braildesk.text import characters, limits
 from braildesk.text.characters import visible
 from braildesk.text.excerpt import excerpt
 from braildesk.text.wrapping import Offered
-from braildesk.workshop import MayNotLast
+from braildesk.workshop import MayNotLast, OthersLink
 
 from scribe.words.console import Console
 from scribe.words.drafts import not_kept
@@ -362,12 +363,15 @@ def not_imported(problem: NotImported) -> Stop:
             )
         case NoText(path=path, cause=None):
             return Stop(f"{path} has no paragraph, so nothing was typed.")
-        case NotSeen():
+        case PartUnseen(fault=fault):
+            kind = fault.note.how.reading.kind
+            is_document = kind is not None and kind.is_document
+            unit = "paragraph of the document" if is_document else "line of the text"
             options = (
-                "--from goes on at a line of the text, --again types all of it, and --leave leaves"
-                " the rest out."
+                f"--from goes on at a {unit}, --again types all of it, and --leave leaves the rest"
+                " out."
             )
-            return Stop(not_seen(problem), more=[f"{options} Nothing was typed."])
+            return Stop(not_seen(fault), more=[f"{options} Nothing was typed."])
         case StandsThere():
             again = "--again types it once more."
             return Stop(_stands_there(problem), more=[f"{again} Nothing was typed."])
@@ -396,6 +400,8 @@ def question(undecided: Undecided) -> str:
             return f"{_stands_there(undecided)} Shall it be typed once more?"
         case PartIsThere(its=its):
             return f"{came_to(its)} Shall the rest be typed now?"
+        case PartUnseen(fault=fault):
+            return f"{not_seen(fault)} Shall all of the text be typed, also what may be there already?"
     raise TypeError(f"no question for {undecided!r}")
 
 
@@ -465,8 +471,8 @@ def reminders(found: Unfinished | NotSeen | NotKept, book: Path) -> Iterator[str
 
 def _why_not(problem: NotImported) -> str:
     match problem:
-        case CantRead(path=path, cause=cause):
-            return f"{path} can't be read: {cause.strerror}."
+        case CantRead():
+            return _cant_read(problem)
         case NoText(path=path, cause=UnreadableText() as fault):
             return f"{path} {unreadable(fault)}."
         case NoneCutShort(path=path):
@@ -478,6 +484,8 @@ def _why_not(problem: NotImported) -> str:
                 f"Line {line} is within the paragraph of {lines_of(passage)}. Say --from"
                 f" {passage.first_line} to begin with that paragraph."
             )
+        case NoLine(line=line, passages=[*_, DocumentPassage()] as its):
+            return f"The document has {_paragraphs(len(its))}, and no paragraph {line}."
         case NoLine(line=line):
             return f"The text has no paragraph from line {line} on."
         case OfTexts(path=path, kind=kind):
@@ -500,6 +508,15 @@ def _why_not(problem: NotImported) -> str:
         case NotContinuing():
             return _not_continuing(problem)
     raise TypeError(f"no sentence for {problem!r}")
+
+
+def _cant_read(problem: CantRead) -> str:
+    if isinstance(problem.cause, OthersLink):
+        return (
+            f"The link “{problem.cause.link}” is another user's, and no text is read through it. Take"
+            " the path to which it leads, if that is what you mean, or another one."
+        )
+    return f"{problem.path} can't be read: {problem.cause.strerror}."
 
 
 def _bad_replacements(problem: BadReplacements) -> str:
@@ -674,6 +691,14 @@ def not_seen(fault: NotSeen) -> str:
         f" the book can't be seen: the book had {_paragraphs(note.there)} before, and the text"
         f" {note.count:,}."
     )
+
+
+def not_seen_yet(fault: NotSeen, key: str) -> str:
+    """The same where nobody asked for that text, with what is done about it by a key."""
+    then = f"{key} and the name of that file ask what is done."
+    if isinstance(fault.cause, OSError):
+        then = "scribe import with --leave leaves the rest out."
+    return f"{not_seen(fault)} {then}"
 
 
 def came_to(its: Unfinished) -> str:

@@ -92,6 +92,10 @@ _SAID = {
         "1 blank isn't typed, where a style alone parts words",
         "{} blanks aren't typed, where styles alone part words",
     ),
+    LossKind.INITIAL: (
+        "1 drop cap is typed as one word with what follows it, and may be a word of its own",
+        "{} drop caps are typed as one word with what follows them, and may be words of their own",
+    ),
     LossKind.HIDDEN: (
         "1 piece of text that is hidden in the document is typed too",
         "{} pieces of text that are hidden in the document are typed too",

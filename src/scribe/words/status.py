@@ -16,6 +16,8 @@ if TYPE_CHECKING:
     from braildesk.desk.whole_file import AnotherIsThere
 
 _IN_THE_BOOK = " What was reported as kept is in the book."
+#: The same where the folder is gone in which the book may have been.
+_UNLESS_THERE = " What was reported as kept is in the book, unless that was in it."
 _OF_DISK = (errno.ENOSPC, errno.EDQUOT, errno.EROFS, errno.EIO, errno.ESTALE)
 
 
@@ -111,8 +113,9 @@ def of_system(failure: OSError, kept: str = _IN_THE_BOOK) -> str:
     After it is said what was kept.
     """
     if _is_nowhere():
+        known = _UNLESS_THERE if kept else ""
         return (
-            f"The folder in which scribe was started is gone.{kept} Go to another folder, and name"
+            f"The folder in which scribe was started is gone.{known} Go to another folder, and name"
             " files from there."
         )
     names = (failure.filename, failure.filename2)

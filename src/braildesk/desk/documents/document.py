@@ -5,8 +5,9 @@ Documents are read by pandoc (`pages`, `package`, `numbers`, `word_print`, `numb
 words of its paragraphs with those that the file itself has (`contents`, `markdown_words`, `rtf_words`, `doc_text`).
 
 RTF and DOC are turned into DOCX by LibreOffice first: pandoc loses print of the one without a word, and
-doesn't read the other. ODT is where pandoc loses words of it, as those of a table of contents, or
-numbers, if fewer are lost so: the text boxes that LibreOffice makes of frames are lost in their turn.
+doesn't read the other. ODT is where pandoc refuses it, or loses words of it, as those of a table of
+contents, or numbers, if fewer are lost so: the text boxes that LibreOffice makes of frames are lost in their
+turn.
 """
 
 from dataclasses import replace
@@ -23,6 +24,7 @@ from braildesk.desk.documents.contents import Contents
 from braildesk.desk.documents.kinds import (
     ManuscriptKind,
     NoDocument,
+    NotConverted,
     NotRead,
     WhyNot,
     repacked,
@@ -143,14 +145,18 @@ def _described(loss: Loss) -> Loss:
 def _read_odt(
     data: bytes, reading: ReadingOptions, name: str, check: Check
 ) -> Manuscript:
-    """A text in ODT, by DOCX if fewer words are lost so."""
+    """A text in ODT, by DOCX if fewer words are lost so, or if pandoc refuses it."""
     numbered, losses = with_odt_numbers(data, reading.bullet, reading.brackets)
     own = replace(contents.contents_of(numbered, ManuscriptKind.ODT), numbers=losses)
-    found = _read(numbered, ManuscriptKind.ODT, own, reading, check)
-    if any(_lost(found)) and pandoc.office():
-        # its numbers are those that LibreOffice gives it
-        own = contents.contents_of(data, ManuscriptKind.ODT)
-        otherwise = _by_docx(data, own, reading, name, check)
+    try:
+        found = _read(numbered, ManuscriptKind.ODT, own, reading, check)
+    except NotConverted:
+        otherwise = _by_docx(data, reading, name, check)
+        if otherwise is None:
+            raise
+        return otherwise
+    if any(_lost(found)):
+        otherwise = _by_docx(data, reading, name, check)
         return min(found, otherwise or found, key=_lost)
     return found
 
@@ -167,9 +173,13 @@ def _read_docx(
 
 
 def _by_docx(
-    data: bytes, own: Contents, reading: ReadingOptions, name: str, check: Check
+    data: bytes, reading: ReadingOptions, name: str, check: Check
 ) -> Manuscript | None:
     """A document in ODT as it is read from the DOCX that LibreOffice makes of it, if it does."""
+    if not pandoc.office():
+        return None
+    # its numbers are those that LibreOffice gives it
+    own = contents.contents_of(data, ManuscriptKind.ODT)
     try:
         made = pandoc.as_docx(data, ManuscriptKind.ODT, name, check)
         found = _read_docx(made, reading, check, own)

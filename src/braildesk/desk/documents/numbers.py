@@ -117,6 +117,7 @@ def with_numbers(data: bytes, bullet: str) -> tuple[bytes, list[Loss]]:
                 losses += word_print.signs(root)
                 losses += word_print.emphasized(root, styles)
                 losses += word_print.links(root)
+                losses += word_print.initials(root)
                 roots.append(root)
             elif name == _STYLES:
                 part = _restyled(part, styles)

@@ -52,6 +52,7 @@ class LossKind(Enum):
     NOTE_AGAIN = auto()
     NOTE_NUMBER = auto()
     JOINED = auto()
+    INITIAL = auto()
     HIDDEN = auto()
     DELETED = auto()
     COMMENT = auto()

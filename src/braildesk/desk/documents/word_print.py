@@ -10,7 +10,7 @@ import re
 from bisect import bisect_right
 from collections.abc import Iterable, Iterator, Mapping, Sequence
 from dataclasses import dataclass
-from itertools import accumulate
+from itertools import accumulate, pairwise
 from xml.etree.ElementTree import Element
 from xml.sax.saxutils import escape, quoteattr
 
@@ -54,6 +54,10 @@ _TEXTS = frozenset(
     f"{_W}{name}"
     for name in ("r", "t", "lastRenderedPageBreak", "proofErr", "bookmarkStart")
 ) | {f"{_W}bookmarkEnd"}
+#: What stands in a drop cap that can be written as text, and what of its letters is no matter for that.
+_OF_INITIAL = {f"{_W}{name}" for name in ("pPr", "r", "rPr", "t", "proofErr")}
+_LOOKS = ("color", "kern", "lang", "noProof", "position", "rFonts", "spacing")
+_LOOKS_OF_INITIAL = {f"{_W}{name}" for name in (*_LOOKS, "sz", "szCs", "w")}
 #: The names of the styles of headings, whose emphasis is that of headings.
 _HEADING = re.compile("heading [1-9]|title$", re.IGNORECASE)
 #: The style of the heads of columns, which are bold as headings are.
@@ -116,6 +120,7 @@ def texts_ahead(root: Element) -> dict[int, str]:
     symbols, grids = _letters(root) | _symbols(root), dict(_grids(root))
     emphasis = emphasis_ahead(root)
     lettered = dict(_lettered(root))
+    initials = {id(first): text for _, first, text in _parted_initials(root)}
     for place, element in enumerate(root.iter()):
         if element.tag == _FIELD and has_no_result(element):
             found[place] = _field(element.get(f"{_W}instr", ""))
@@ -140,7 +145,67 @@ def texts_ahead(root: Element) -> dict[int, str]:
         elif element.tag == _RUBY and _is_replaced(element):
             base, reading = (_print(element, name) for name in ("rubyBase", "rt"))
             found[place] = _text(f"{base}({reading})" if reading else base)
+        if id(element) in initials:
+            initial = f"<w:r>{_text(initials[id(element)])}</w:r>"
+            found[place] = initial + found.get(place, "")
     return found
+
+
+def initials(root: Element) -> Iterator[Loss]:
+    """The drop caps of which one word is made with what follows, though they may be a word of their own."""
+    parted = {id(initial) for initial, _, _ in _parted_initials(root)}
+    for initial, _, text, others in _initials(root):
+        own, rest = text.strip(), others.strip()
+        is_front = sum(map(str.isalpha, own)) < 2 and not _has_blank(text, others)
+        is_joined = own[-1].isalpha() and rest[:1].isalpha()
+        if id(initial) not in parted and is_joined and not is_front:
+            yield Loss(LossKind.INITIAL, own, plain(f"{own}{rest}")[:_SHOWN])
+
+
+def _parted_initials(root: Element) -> Iterator[tuple[Element, Element, str]]:
+    """The drop caps that a blank parts from their paragraph, of which pandoc makes one word with what follows:
+    each with the first element of that paragraph, and its own text.
+
+    One that is emphasized, or hidden, isn't written anew, since that would be.
+    """
+    for initial, following, text, others in _initials(root):
+        runs = list(initial.iterfind(_RUN))
+        parts = {each.tag for run in runs for each in run}
+        parts |= {each.tag for each in initial}
+        looks = {each.tag for run in runs for each in run.iterfind(f"{_W}rPr/*")}
+        first = next((each for each in following if each.tag != f"{_W}pPr"), None)
+        is_plain = parts <= _OF_INITIAL and looks <= _LOOKS_OF_INITIAL
+        if _has_blank(text, others) and first is not None and is_plain:
+            yield initial, first, text
+
+
+def _has_blank(text: str, others: str) -> bool:
+    """Whether a blank parts a drop cap from its paragraph."""
+    return text.endswith(" ") or others.startswith(" ")
+
+
+def _initials(root: Element) -> Iterator[tuple[Element, Element, str, str]]:
+    """The drop caps, each with the paragraph to which it belongs, and the texts of both."""
+    known = {id(each) for each in root.iter(f"{_W}p") if _is_initial(each)}
+    pairs = (pair for each in root.iter() if known for pair in pairwise(each))
+    for initial, following in pairs:
+        if id(initial) not in known or id(following) in known:
+            continue
+        text, others = ("".join(_own_texts(each)) for each in (initial, following))
+        if following.tag == f"{_W}p" and text.strip():
+            yield initial, following, text, others
+
+
+def _is_initial(paragraph: Element) -> bool:
+    """Whether a paragraph is the drop cap of the next one."""
+    frame = paragraph.find(f"{_W}pPr/{_W}framePr")
+    return frame is not None and frame.get(f"{_W}dropCap") in ("drop", "margin")
+
+
+def _own_texts(element: Element) -> Iterator[str]:
+    """The texts of a paragraph, without deleted ones."""
+    for each in element.iter(f"{_W}t"):
+        yield each.text or ""
 
 
 def _field(code: str) -> str:
@@ -200,6 +265,7 @@ def _known(properties: Element) -> Iterator[str]:
 def replaced(root: Element) -> frozenset[int]:
     """The places of elements that are left out, since a text ahead of them is all that they have."""
     symbols = {*_symbols(root), *_letters(root), *dict(_lettered(root))}
+    symbols |= {id(initial) for initial, _, _ in _parted_initials(root)}
     return frozenset(
         place
         for place, element in enumerate(root.iter())

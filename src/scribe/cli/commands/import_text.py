@@ -29,8 +29,9 @@ Blank lines part the paragraphs, and the lines between them are joined; with --l
 line is a paragraph. The text is UTF-8. Before anything is typed all of it is judged: each
 character that the table lacks and each paragraph that is too long is shown with its line
 and column. If the typing is cut short, also by a terminal that is closed, --continue types
-the rest; --from goes on at a line of the text. A text that stands there already, or of
-which an import of yours was cut short, isn't typed once more without --again.
+the rest; --from goes on at a line of the text, or at a paragraph of a document. A text that
+stands there already, or of which an import of yours was cut short, isn't typed once more
+without --again.
 DOCX, ODT, EPUB, HTML and Markdown are read by pandoc, and RTF and DOC by LibreOffice, if
 these are installed; which of them it is, is found. Headings become headings. What a book
 can't hold, as emphasis and the form of tables, is said before anything is typed, and so is

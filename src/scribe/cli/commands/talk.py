@@ -50,7 +50,7 @@ def add_parser(subparsers: Subparsers) -> ArgumentParser:
         "--by",
         metavar="WHO",
         type=words,
-        help="the proofreader whose name corrections keep",
+        help="the proofreader whose name the corrections of change keep",
     )
     add_cells(parser)
     parser.add_argument(
