@@ -208,11 +208,33 @@ def test_a_mark_whose_words_are_gone_is_put_again_on_the_character_there(
     sat.press("n", "enter", *["delete"] * 4, "enter", "r")
     assert sat.state.kept == "kept: mark 1 resolved"
     sat.press("u")
-    assert sat.state.message.startswith("Taken back: mark 1 was resolved.")
+    assert sat.state.message == (
+        "Taken back: mark 1 was resolved. It stays resolved, and a new mark is on “ ”."
+    )
     sat.desk.close()
     with Session(moon) as session:
         marks = [(m.id, m.start, m.resolved, m.note) for m in session.marks_of(1)]
     assert marks == [(1, 4, True, "spelled so?"), (2, 4, False, "spelled so?")]
+
+
+def test_of_a_mark_that_is_put_again_on_more_words_it_is_said_on_which(
+    moon: Path, sit: Sit
+) -> None:
+    with Session(moon) as session:
+        text = moon.with_name("plain.utb").read_bytes() + b"always oo 16\n"
+        session.put_table("short", text)
+        session.add_paragraph("end", "short", "The mon is up.")
+        session.add_mark(4, 6, 1, "really?")
+        session.correct(4, 5, 0, "o")
+    sat = sit(moon)
+    sat.press("c-end", "n", "r", "u")
+    assert sat.state.message == (
+        "Taken back: mark 2 was resolved. It stays resolved, and a new mark is on “oo”."
+    )
+    sat.desk.close()
+    with Session(moon) as session:
+        marks = [(m.id, m.start, m.stop, m.resolved) for m in session.marks_of(4)]
+    assert marks == [(2, 6, 7, True), (3, 5, 7, False)]
 
 
 def test_a_mark_that_could_not_be_put_again_is_resolved_once_that_is_asked(

@@ -24,14 +24,12 @@ from braildesk.desk.changed_so_far import end_taken_back
 from braildesk.desk.correction import Correction, place_kept, smallest_correction
 from braildesk.desk.draft import Aim, Draft, Unread
 from braildesk.desk.drafts import Drafts, LeftAt, NotKept
-from braildesk.desk.highlighting import cells_of_marks
 from braildesk.desk.history import newest_corrector
 from braildesk.desk.import_note import ImportNote
 from braildesk.desk.tables import NoSuchTable, table_request
 from braildesk.protocol.requests import Command
 from braildesk.session import held_file
 from braildesk.text.characters import visible
-from braildesk.text.spans import Span
 
 from scribe.screen import (
     by_pages,
@@ -928,11 +926,7 @@ class Desk:
             return None
         for mark in its.marks:
             if mark.id == command.mark and not mark.resolved:
-                cells = Span(0, 0)
-                if not its.paragraph.struck:
-                    marks = (deeds.on_a_character(mark, len(its.text)),)
-                    (cells,) = cells_of_marks(self._session, replace(its, marks=marks))
-                return deeds.resolved(mark, its.paragraph.id, cells)
+                return deeds.resolved(self._session, its, mark)
         return None
 
     def _taking_back(self, state: State, action: TakeBack) -> State:

@@ -367,11 +367,7 @@ class OpenBook:
     def _resolved(self, its: ParagraphReading, number: int) -> Deed:
         """That a mark was resolved, which is put again on the cells of its words as they are now."""
         (mark,) = (each for each in its.marks if each.id == number)
-        cells = Span(0, 0)
-        if not its.paragraph.struck:
-            put = replace(deeds.on_a_character(mark, len(its.text)), resolved=False)
-            (cells,) = cells_of_marks(self._session, replace(its, marks=(put,)))
-        return deeds.resolved(mark, its.paragraph.id, cells)
+        return deeds.resolved(self._session, its, mark)
 
     def with_table(
         self,

@@ -4,15 +4,22 @@ from collections.abc import Sequence
 from dataclasses import dataclass, replace
 from typing import Any
 
-from braildesk import After, Mark, Paragraph, Style, requests
+from braildesk import After, Mark, Paragraph, Session, Style, requests
 from braildesk.desk.change_all import Replacement
+from braildesk.desk.highlighting import cells_of_marks
+from braildesk.desk.places import words_of
+from braildesk.desk.readings import ParagraphReading
 from braildesk.protocol.requests import Command
 from braildesk.text.spans import Span
+
+from scribe.words.paragraph import quoted
 
 _STRUCK = "The book keeps it, struck."
 _ALL_STRUCK = "The book keeps them, struck."
 _RESOLVED = "The book keeps it, resolved."
 _PUT_AGAIN = "It stays resolved, and a new mark stands in its place."
+# where its words are gone, or the cells of more words are those of its own
+_PUT_ELSEWHERE = "It stays resolved, and a new mark is on {}."
 
 
 @dataclass(frozen=True)
@@ -105,21 +112,30 @@ def _of_paragraph(command: Command[Any], was: Paragraph, before: After) -> Deed:
     raise TypeError(f"no command of a paragraph: {command!r}")
 
 
-def on_a_character(mark: Mark, length: int) -> Mark:
+def resolved(session: Session, its: ParagraphReading, mark: Mark) -> Deed:
+    """A mark that was resolved; without cells, as in an empty paragraph, it can't be put again."""
+    what, number, text = f"mark {mark.id} was resolved", its.paragraph.id, its.text
+    if its.paragraph.struck:
+        return Deed(what)
+    put = replace(_on_a_character(mark, len(text)), resolved=False)
+    (cells,) = cells_of_marks(session, replace(its, marks=(put,)))
+    count = cells.stop - cells.start
+    if count < 1:
+        return Deed(what)
+    words = words_of(session, number, cells, text, its.braille)
+    left = _PUT_AGAIN
+    if words != Span(mark.start, mark.stop):
+        left = _PUT_ELSEWHERE.format(quoted(text[words.start : words.stop]))
+    back = requests.Mark(number, cells.start, count, mark.note)
+    return Deed(what, (back,), left, number, mark.id)
+
+
+def _on_a_character(mark: Mark, length: int) -> Mark:
     """A mark as it can be put again: one without words on the character that is there."""
     if mark.start < mark.stop or not length:
         return mark
     start = min(mark.start, length - 1)
     return replace(mark, start=start, stop=start + 1)
-
-
-def resolved(mark: Mark, paragraph: int, cells: Span) -> Deed:
-    """A mark on cells that was resolved; without any, as in an empty paragraph, it can't be put again."""
-    what, count = f"mark {mark.id} was resolved", cells.stop - cells.start
-    if count < 1:
-        return Deed(what)
-    back = requests.Mark(paragraph, cells.start, count, mark.note)
-    return Deed(what, (back,), _PUT_AGAIN, paragraph, mark.id)
 
 
 def typed(numbers: Sequence[int], how: str) -> Deed:
