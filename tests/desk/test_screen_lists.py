@@ -126,7 +126,7 @@ def test_page_and_line_of_what_is_gone_to_are_said_where_that_is_wanted(
     assert sat.state.message == "Please wait." and sat.state.away
     sat.state = sat.desk.away(sat.state, lambda _: None)
     assert sat.state.message == (
-        "No open mark up to the front of the book: this is the last in it. Volume 2, page 1"
+        "No open mark begins further back: this is the last in the book. Volume 2, page 1"
         " line 2."
     )
     sat.press("P", "n")

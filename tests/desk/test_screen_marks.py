@@ -226,38 +226,46 @@ def test_n_says_where_it_goes_around_and_that_there_is_no_other_mark(
     assert sat.state.message == "The book has no other open mark."
     sat.press("down", "n")
     assert sat.state.message == (
-        "No open mark up to the end of the book: this is the first in it."
+        "No open mark begins further on: this is the first in the book."
     )
     sat.press("left", "left", "N")
     assert sat.state.message == (
-        "No open mark up to the front of the book: this is the last in it."
+        "No open mark begins further back: this is the last in the book."
     )
 
 
-def test_n_says_of_a_mark_on_whose_words_the_cursor_is_that_there_is_none_but_that(
+def test_n_says_only_of_marks_that_begin_further_on_that_there_are_none(
     moon: Path, sit: Sit
 ) -> None:
+    with Session(moon) as session:
+        session.add_mark(1, 5, 4, "really?")
+    # both are on the words of the cursor
     sat = sit(moon)
     sat.press("n", "right", "right", "n")
     assert (sat.state.place, sat.state.message) == (
         4,
-        "No open mark but mark 1 up to the end of the book: this is the first in it.",
+        "No open mark begins further on: this is the first in the book.",
     )
 
 
-def test_n_says_from_which_mark_it_went_around_where_the_cursor_is_elsewhere(
+def test_n_says_from_which_mark_it_went_around_wherever_the_cursor_is(
     moon: Path, sit: Sit
 ) -> None:
     with Session(moon) as session:
         session.add_mark(1, 12, 3, "")
     sat = sit(moon)
+    sat.press("n", "N")
+    assert (sat.state.place, sat.state.message) == (
+        11,
+        "No open mark begins before mark 1: this is the last in the book.",
+    )
     # the mark of the edit stays in hand, and the cursor is before both
-    sat.press("n", "n", "enter", "c-a", *"Oh, ", "enter")
+    sat.press("enter", "c-a", *"Oh, ", "enter")
     assert sat.state.mark_in_hand and sat.state.mark_in_hand.id == 2
     sat.press("n")
     assert (sat.state.place, sat.state.message) == (
         8,
-        "No open mark after mark 2 up to the end of the book: this is the first in it.",
+        "No open mark begins after mark 2: this is the first in the book.",
     )
 
 
@@ -268,7 +276,7 @@ def test_n_says_the_note_of_a_mark_first_where_it_has_no_row(
     note = "spelled so? Ask the author of the book"
     with Session(moon) as session:
         session.add_mark(2, 4, 5, note)
-    around = "No open mark up to the end of the book: this is the first in it."
+    around = "No open mark begins after mark 2: this is the first in the book."
     sat = sit(moon, size=Size(40, lines))
     sat.press("n", "n", "n")
     (mark,) = (m for m in sat.state.marks_here if sat.state.is_on(m))

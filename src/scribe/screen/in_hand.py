@@ -15,8 +15,8 @@ from scribe.screen.state import InHand, State, prompted
 from scribe.words.paragraph import marked_words as where
 from scribe.words.paragraph import quoted
 
-_FIRST = "No open mark{} up to the end of the book: this is the first in it."
-_LAST = "No open mark{} up to the front of the book: this is the last in it."
+_FIRST = "No open mark begins {}: this is the first in the book."
+_LAST = "No open mark begins {}: this is the last in the book."
 # said before it is put, since the book keeps it
 _OF_MARK = "r resolves a mark, and nothing takes it out."
 #: Of how many lines a screen is on which a mark has a row, and on which its words are seen beside its note.
@@ -25,7 +25,7 @@ _WITH_ROW, _WITH_NOTE = 3, 2
 
 def at_mark(state: State, found: Found, is_back: bool, since: Spot) -> State:
     """The state with the cursor at an open mark that was looked for from a spot, which is in hand there."""
-    spot, before = found.spot, state
+    spot = found.spot
     # a mark without words may stand after the last character
     place = max(0, min(spot.place, state.book[spot.chosen].length - 1))
     has_moved = (spot.chosen, place) != (state.chosen, state.place)
@@ -33,24 +33,21 @@ def at_mark(state: State, found: Found, is_back: bool, since: Spot) -> State:
     if found.is_same:
         return state.saying("The book has no other open mark.")
     if found.is_around:
-        way = _way(before, spot, since, is_back)
-        return state.saying((_LAST if is_back else _FIRST).format(way))
+        around = _LAST if is_back else _FIRST
+        return state.saying(around.format(_way(since, is_back)))
     if has_moved or spot.place != place:
         return state
     return state.saying(f"Mark {spot.mark} begins here.")
 
 
-def _way(state: State, spot: Spot, since: Spot, is_back: bool) -> str:
-    """From which mark it was gone around to another one, where that isn't seen by the cursor."""
-    cursor = state.chosen, state.place
+def _way(since: Spot, is_back: bool) -> str:
+    """From where it was gone around to another mark: from one that was in hand, or from the cursor.
+
+    Others may be on the words of the cursor, and begin elsewhere.
+    """
     if since.mark > 0:
-        # the mark that was in hand may be elsewhere than the cursor, or where the other one begins
-        is_seen = (since.chosen, since.place) == cursor != (spot.chosen, spot.place)
-        return (
-            "" if is_seen else f" {'before' if is_back else 'after'} mark {since.mark}"
-        )
-    is_here = spot.mark in (each.id for each in state.marks_here)
-    return f" but mark {spot.mark}" if is_here else ""
+        return f"{'before' if is_back else 'after'} mark {since.mark}"
+    return "further back" if is_back else "further on"
 
 
 def with_mark_in_hand(state: State, before: State) -> State:
