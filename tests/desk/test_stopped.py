@@ -10,10 +10,13 @@ import pytest
 
 from braildesk import Session
 import braildesk
+import braildesk.making
+from braildesk import workshop
 from braildesk.desk.drafts import Drafts
 from braildesk.desk.export import Job
 from braildesk.desk.layout import PageSize
 
+from scribe.cli import run_words
 from scribe.words.console import WAITING, Console
 from scribe.words.export import export_in_words
 from scribe.words.status import Interrupted
@@ -202,6 +205,53 @@ def test_of_volumes_without_a_file_an_export_that_is_told_to_end_says_so(
     assert said.getvalue() == f"Stopped by SIGTERM.{told}\n"
     names = {f"moon-{number}.brf" for number in {1, *there}}
     assert {path.name for path in folder.iterdir()} == names
+
+
+@pytest.mark.parametrize(
+    "words, is_put, told",
+    [
+        ("new made", False, "Nothing was made."),
+        ("new made", True, "made is a new book with the table ueb."),
+        ("new empty", False, "empty has what it had."),
+        ("new empty", True, "empty is a new book with the table ueb."),
+        ("copy moon.braildesk made", False, "Nothing was made."),
+        ("copy moon.braildesk made", True, "made is a copy of moon.braildesk."),
+        ("copy moon.braildesk older --overwrite", False, "older is as it was."),
+        (
+            "copy moon.braildesk older --overwrite",
+            True,
+            "older is a copy of moon.braildesk.",
+        ),
+    ],
+)
+def test_who_stops_a_new_book_or_a_copy_is_told_whether_it_is_there(
+    moon: Path, monkeypatch: pytest.MonkeyPatch, words: str, is_put: bool, told: str
+) -> None:
+    monkeypatch.chdir(moon.parent)
+    Path("empty").touch()
+    braildesk.new_book("older")
+    before = Path("older").read_bytes()
+
+    def put(name: str) -> None:
+        its = getattr(workshop, name)
+
+        def stopped(*words: object) -> None:
+            if is_put:
+                its(*words)
+            raise Interrupted(signal.SIGINT)
+
+        monkeypatch.setattr(braildesk.making, name, stopped)
+
+    for name in ("put", "put_over"):
+        put(name)
+    said = StringIO()
+    with pytest.raises(Interrupted) as ended:
+        run_words(words.split(), Console(BytesIO(), StringIO(), said))
+    assert ended.value.is_said and said.getvalue() == f"Stopped. {told}\n"
+    assert Path("made").exists() == (is_put and "made" in words)
+    assert (Path("empty").stat().st_size > 0) == (is_put and "empty" in words)
+    is_older = Path("older").read_bytes() == before
+    assert is_older == (not is_put or "older" not in words)
 
 
 def test_work_beside_the_screen_ends_before_its_next_step(

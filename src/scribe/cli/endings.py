@@ -8,8 +8,8 @@ import signal
 import sys
 import time
 from argparse import Namespace
-from collections.abc import Callable
-from contextlib import suppress
+from collections.abc import Callable, Iterator
+from contextlib import contextmanager, suppress
 from dataclasses import dataclass
 from functools import partial
 from pathlib import Path
@@ -19,7 +19,7 @@ from typing import NoReturn
 from braildesk.text.characters import visible
 from braildesk.version import version
 
-from scribe.words.console import OutputFailed, width_of_output
+from scribe.words.console import Console, OutputFailed, width_of_output
 from scribe.words.status import Interrupted, Status, number_of, stopped_by
 
 _DETAILS = "fault.txt"
@@ -123,6 +123,33 @@ def _may_have_changed(may_change: Callable[[], bool]) -> bool:
     with suppress(Exception):
         return may_change()
     return True
+
+
+@contextmanager
+def made_or_not(console: Console, path: Path, made: str, left: str) -> Iterator[None]:
+    """Says if the work is stopped by which a file is made whether it is there, and whole.
+
+    That is another file than stood there before, or has something where that had nothing. Else it is
+    said what is so of that file.
+    """
+    before = _found(path)
+    try:
+        yield
+    except KeyboardInterrupt as cause:
+        said = made
+        if _found(path) == before:
+            said = left if before else "Nothing was made."
+        console.say(f"{stopped_by(cause)} {said}")
+        raise Interrupted.after(cause) from cause
+
+
+def _found(path: Path) -> tuple[int, int, bool] | None:
+    """Which file stands at a path, if one does, and whether it has anything."""
+    try:
+        found = os.stat(path)
+    except (OSError, ValueError):
+        return None
+    return found.st_dev, found.st_ino, found.st_size > 0
 
 
 def said_of(

@@ -10,6 +10,7 @@ from braildesk.named_files import is_same_file
 from braildesk.protocol.asked import BookFile
 from braildesk.snapshot import snapshot
 
+from scribe.cli.endings import made_or_not
 from scribe.cli.opened_book import without_log
 from scribe.cli.parser import Subparsers, add_file, command_parser, file_path
 from scribe.words.console import Console, OutputFailed
@@ -43,18 +44,20 @@ def add_parser(subparsers: Subparsers) -> ArgumentParser:
 def run(arguments: Namespace, console: Console) -> Status:
     """Copies the book."""
     to = arguments.to
-    try:
-        version, is_open = _copied(arguments)
-    except FileIsThere as taken:
-        raise Stop(f"{taken.sentence} --overwrite replaces a book.") from taken
-    said = f"{to} is a copy of {arguments.file}, at version {version:,}."
-    try:
-        console.show(said)
-        console.flush()
-    except OutputFailed as failed:
-        # the copy is there all the same
-        failed.add_note(said)
-        raise
+    made = f"{to} is a copy of {arguments.file}"
+    with made_or_not(console, to, f"{made}.", f"{to} is as it was."):
+        try:
+            version, is_open = _copied(arguments)
+        except FileIsThere as taken:
+            raise Stop(f"{taken.sentence} --overwrite replaces a book.") from taken
+        said = f"{made}, at version {version:,}."
+        try:
+            console.show(said)
+            console.flush()
+        except OutputFailed as failed:
+            # the copy is there all the same
+            failed.add_note(said)
+            raise
     if is_open:
         goes_on = f"Another program has {arguments.file} open, and goes on with it."
         console.say(f"{goes_on} {without_log(arguments.file)}".rstrip())

@@ -5,6 +5,7 @@ from argparse import ArgumentParser, Namespace
 from braildesk import new_book
 from braildesk.desk.tables import first_table
 
+from scribe.cli.endings import made_or_not
 from scribe.cli.parser import Subparsers, add_file, command_parser
 from scribe.words.console import Console
 from scribe.words.status import Status
@@ -29,7 +30,10 @@ def add_parser(subparsers: Subparsers) -> ArgumentParser:
 
 def run(arguments: Namespace, console: Console) -> Status:
     """Makes a book, and puts a table into it."""
-    request = first_table()
-    new_book(arguments.file, holding=[request], timeout=arguments.wait)
-    console.show(f"{arguments.file} is a new book with the table {request.table}.")
+    request, file = first_table(), arguments.file
+    made = f"{file} is a new book with the table {request.table}."
+    with made_or_not(console, file, made, f"{file} has what it had."):
+        new_book(file, holding=[request], timeout=arguments.wait)
+        console.show(made)
+        console.flush()
     return Status.DONE
