@@ -256,6 +256,21 @@ def test_what_was_brought_back_and_can_not_be_kept_is_given_up_as_any_other(
     assert sat.desk.unkept == ("It rose.",)
 
 
+def test_of_a_book_that_was_moved_it_is_not_said_that_it_was_typed_at_this_path(
+    moon: Path, sit: Sit
+) -> None:
+    sat = sit(moon)
+    sat.desk.typed_last.note("It rose.")
+    sat.desk.typed_last.keep()
+    sat.desk.close()
+    again = sit(moon.rename(moon.with_name("moved.braildesk")))
+    again.press("a-y")
+    assert again.state.typed and again.state.typed.text == "It rose."
+    assert again.state.message == (
+        "All that was typed last in this book or at its path is here, kept or not."
+    )
+
+
 def test_it_has_no_place_where_no_table_is_known(empty_book: Path, sit: Sit) -> None:
     sat = sit(empty_book)
     sat.desk.typed_last.note("It rose.")
