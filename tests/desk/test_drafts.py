@@ -1217,6 +1217,31 @@ def test_a_text_that_is_left_for_later_no_more_at_a_lost_book_is_not_where_it_wa
     assert (other.later(), other.waiting()) == ((theirs,), second)
 
 
+def test_what_others_cut_and_typed_where_a_lost_book_was_saved_is_not_written_over(
+    moon: Path,
+) -> None:
+    own, other = Drafts(moon), Drafts(moon.with_name("other.braildesk"))
+    own.keep_typed_last("Ours.")
+    own.copy_to(other.book)
+    for text in ("ours", "ours since"):
+        own.keep_cut(text)
+        own.copy_to(other.book)
+        assert (other.cut(), other.typed_last()) == (text, "Ours.")
+    other.keep_cut("theirs")
+    other.keep_typed_last("Ours. Theirs.")
+    other.keep_answers({"WORDS": "theirs"})
+    own.keep_typed_last("Ours. Since.")
+    own.keep_answers({"WORDS": "ours"})
+    own.put_by(NOTE)
+    own.copy_to(other.book)
+    assert (other.cut(), other.typed_last()) == ("theirs", "Ours. Theirs.")
+    assert other.answers() == {"WORDS": "theirs"}
+    assert other.given_up() == (NOTE,)
+    another = Drafts(moon.with_name("another.braildesk"))
+    own.copy_to(another.book)
+    assert (another.cut(), another.typed_last()) == ("ours since", "Ours. Since.")
+
+
 @pytest.mark.parametrize(
     "done, said",
     [

@@ -142,6 +142,8 @@ class Drafts:
         self._copied: Draft | None = None
         # those that are left for later and were copied so
         self._copied_later: tuple[Draft, ...] = ()
+        # what is kept for other books as it was copied, by the names of its files
+        self._as_copied: dict[str, bytes | None] = {}
 
     @property
     def place(self) -> Path:
@@ -565,12 +567,23 @@ class Drafts:
                 is_among_theirs = what is Begun.GIVEN_UP and other.given_up()
                 if is_among_theirs or what is Begun.LATER:
                     continue
+                is_text = what in (Begun.WAITING, Begun.GIVEN_UP)
+                if not is_text and self._is_theirs(other, what):
+                    continue
                 data = self._folder.read(self._name(what))
                 if data is not None:
                     other._write(
                         what, Record.of(data).without("book", "file", "generation")
                     )
+                name = other._name(what)
+                self._as_copied[name] = other._folder.read(name)
         self._take_from(other)
+
+    def _is_theirs(self, other: "Drafts", what: Begun) -> bool:
+        """Whether what is kept for another book is another session's since this one's was copied there."""
+        name = other._name(what)
+        is_copied = name in self._as_copied
+        return is_copied and other._folder.read(name) != self._as_copied[name]
 
     def _add_to(self, other: "Drafts", before: Draft | None) -> None:
         """Gives up, for another book, the texts of this one beside those that were typed there meanwhile."""
