@@ -1278,3 +1278,92 @@ def test_what_another_session_left_for_later_stays_among_what_waits(
     assert [each.text for each in drafts.given_up()] == ["Text 1."]
     waiting = drafts.waiting()
     assert waiting is not None and waiting.text == "Text 0."
+
+
+@pytest.mark.parametrize("is_beside", [True, False])
+def test_what_is_left_for_later_here_waits_on_after_another_session_had_its_text_wait(
+    moon: Path, store: Path, is_beside: bool
+) -> None:
+    drafts = Drafts(moon)
+    ours, theirs = (
+        Draft(Aim.AFTER, 1, "en", "", text) for text in ("Ours.", "Theirs.")
+    )
+    here = Unsent(drafts)
+    here.read()
+    here.keep(ours)
+    here.put_off()
+    here.keep(None)
+    # in whose place it is left for later there too, or was typed further
+    drafts.keep_later([ours] if is_beside else [])
+    drafts.save(theirs)
+    assert here.others() == (theirs, "")
+    for _ in range(2):
+        here.keep(None)
+        assert (drafts.waiting(), drafts.given_up()) == (ours, (theirs,))
+    assert here.texts() == (theirs, ours)
+
+
+def test_what_was_left_for_later_here_and_waits_since_another_session_is_none_of_its_own(
+    moon: Path, store: Path
+) -> None:
+    drafts = Drafts(moon)
+    later, typed = (
+        Draft(Aim.AFTER, 1, "en", "", text) for text in ("Later.", "Typed.")
+    )
+    here = Unsent(drafts)
+    here.read()
+    here.keep(later)
+    here.put_off()
+    here.keep(typed)
+    # as where what is typed here was given up there
+    drafts.keep_later([])
+    drafts.save(later)
+    assert here.others() is None
+    assert (drafts.waiting(), drafts.later()) == (typed, (later,))
+    assert drafts.given_up() == ()
+
+
+def test_what_came_last_in_another_session_is_given_up_where_other_text_comes(
+    moon: Path, store: Path
+) -> None:
+    drafts = Drafts(moon)
+    here = Unsent(drafts)
+    here.read()
+    theirs = Draft(Aim.AFTER, 1, "en", "", "It set.")
+    # that session was killed before it took it in
+    drafts.keep_unread(Unread("It rose.", theirs))
+    here.keep_unread(None)
+    assert drafts.unread() is not None
+    for text in ("Noon.", "Noon. Night."):
+        here.keep_unread(Unread("", replace(theirs, text=text)))
+        assert [each.text for each in drafts.given_up()] == ["It rose.\nIt set."]
+    here.keep_unread(None)
+    assert drafts.unread() is None
+
+
+def test_what_others_typed_is_said_also_where_what_waits_here_can_not_be_kept_after_it(
+    moon: Path, store: Path, monkeypatch: pytest.MonkeyPatch
+) -> None:
+    drafts = Drafts(moon)
+    ours, theirs = (
+        Draft(Aim.AFTER, 1, "en", "", text) for text in ("Ours.", "Theirs.")
+    )
+    here = Unsent(drafts)
+    here.read()
+    here.keep(ours)
+    drafts.save(theirs)
+    write = OwnFolder.write
+
+    def full(folder: OwnFolder, name: str, data: bytes) -> None:
+        if name.endswith(Begun.WAITING.value):
+            raise OSError(errno.ENOSPC, os.strerror(errno.ENOSPC))
+        write(folder, name, data)
+
+    with monkeypatch.context() as patched:
+        patched.setattr(OwnFolder, "write", full)
+        assert here.others() == (theirs, "")
+        # it is said of what is typed that it isn't kept
+        with pytest.raises(NotSaved):
+            here.keep(ours)
+    here.keep(ours)
+    assert (drafts.waiting(), drafts.given_up()) == (ours, (theirs,))

@@ -304,11 +304,17 @@ class Unsent:
             found = self._drafts.waiting()
             if found == its or found and its and found.is_same_as(its):
                 return None
+            later = *self._later, *self._put_off
+            left = [each for each in (its, found) if each and each in later]
+            # until what waits here is kept in its place
+            self.waiting = found
             self._read_later()
-            how = self.put_by(found) if found else ""
-            if not self.unkept:
-                self._drafts.save(its) if its else self._drafts.clear()
-            return (found, how) if found else None
+            self._later = tuple(dict.fromkeys((*left, *self._later)))
+            theirs = None if found in left else found
+            how = self.put_by(theirs) if theirs else ""
+            with suppress(NotKept):
+                self.keep(its)
+            return (theirs, how) if theirs else None
         # what can't be read or kept is said where something is kept
         return None
 
@@ -352,8 +358,18 @@ class Unsent:
     def keep_unread(self, unread: Unread | None) -> None:
         """Keeps what came while nothing can be done with it, or nothing; may raise `NotKept`."""
         if unread != self._unread:
+            if self._unread is None:
+                self._give_up_unread()
             self._drafts.keep_unread(unread)
             self._unread = unread
+
+    def _give_up_unread(self) -> None:
+        """Gives up what came in another session of the book, which ended before it took that in."""
+        # nothing else is done about what can't be read
+        with suppress(NotKept):
+            its = self._drafts.unread()
+            if its is not None:
+                self.put_by(replace(its.rest, text=its.text_of_all))
 
     def keep(self, typed: Draft | None) -> None:
         """Has what is typed wait, or what was left for later, or nothing; may raise `NotKept`."""
