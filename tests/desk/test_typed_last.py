@@ -12,6 +12,7 @@ from pathlib import Path
 import pytest
 
 from braildesk import Session
+from braildesk.desk.draft import Aim, Draft
 from braildesk.desk.drafts import MOST_TYPED_LAST, Begun, Drafts
 from braildesk.desk.own_folder import OwnFolder
 
@@ -223,8 +224,12 @@ def test_it_is_typed_as_a_new_paragraph_which_is_kept_or_given_up(
     assert sat.state.typed and sat.state.typed.text == "It rose. It set."
     sat.press("escape")
     # it is kept as that, and no other text gives up its place for it
-    assert sat.state.message == "Given up. The book is as it was. Alt-Y brings it back."
+    given_up = "Given up. The book is as it was. Alt-Y brings it back."
+    assert sat.state.message == given_up
     assert sat.desk.drafts.given_up() == ()
+    # which one more of that key doesn't hide
+    sat.press("escape")
+    assert sat.state.message.startswith(f"{given_up} That key does nothing here.")
     sat.press("a-y", "enter")
     assert sat.state.kept == "kept: paragraph 4"
     assert [each.id for each in sat.state.book] == [1, 4, 2, 3]
@@ -269,6 +274,46 @@ def test_of_a_book_that_was_moved_it_is_not_said_that_it_was_typed_at_this_path(
     assert again.state.message == (
         "All that was typed last in this book or at its path is here, kept or not."
     )
+
+
+#: Keys by which a text that is typed further is in no other place than this at last.
+TAKEN_OUT = {
+    "cut": "c-u escape o S e a c-w escape",
+    "cut word by word": "c-w home c-k escape o S e a c-w escape",
+    "erased": "backspace " * 13 + "escape",
+}
+
+
+@pytest.mark.parametrize("keys", TAKEN_OUT.values(), ids=TAKEN_OUT)
+@pytest.mark.parametrize("key", ["U", ""])
+def test_a_text_that_was_brought_back_is_there_whatever_keys_take_out_of_it(
+    moon: Path, sit: Sit, keys: str, key: str
+) -> None:
+    drafts = Drafts(moon)
+    text = Draft(
+        Aim.AFTER, 1, "en", "", "Dawn.\nIt rose" if not key else "It rose early"
+    )
+    others = [Draft(Aim.AFTER, 1, "en", "", f"Text {n}.") for n in range(9)]
+    for each in (*others, *([text] if key else ())):
+        drafts.put_by(each)
+    if not key:
+        drafts.save(text)
+    sat = sit(moon)
+    sat.press(*key, "y", *([] if key else ["n"]), *keys.split())
+    assert sat.state.typed is None
+    assert sat.desk.typed_last.text == text.joined
+    # no other one gives up its place for it
+    assert drafts.given_up() == tuple(reversed(others))
+
+
+def test_of_a_print_that_is_typed_further_it_is_there_what_is_new_and_once(
+    moon: Path, sit: Sit
+) -> None:
+    sat = sit(moon)
+    sat.press("enter", "home", *"Again ", "escape")
+    for _ in range(2):
+        sat.press("U", "y", "escape")
+        assert sat.desk.typed_last.text == "Again"
 
 
 def test_it_has_no_place_where_no_table_is_known(empty_book: Path, sit: Sit) -> None:

@@ -1074,9 +1074,16 @@ class Desk:
     def _taken_up(self, state: State, saved: Draft) -> State:
         """The state in which a text is typed further, which waits from now on."""
         draft = draft_of(state)
+        if draft is None:
+            return state
+        text = draft.text
+        if draft.aim is Aim.EDIT and state.reading:
+            least = smallest_correction(state.reading.text, text)
+            text = least.text if least else ""
+        # keys may take out of it what nothing else keeps then
+        self.typed_last.note_again(text)
         try:
-            if draft is not None:
-                self._unsent.take_up(draft, saved)
+            self._unsent.take_up(draft, saved)
         except NotKept as fault:
             return state.saying(not_kept(fault))
         return state

@@ -73,7 +73,7 @@ _OF_IMPORT = "The book keeps what is imported. u strikes it, and nothing takes i
 _OF_LOST = "Enter opens {opens}, and q ends. That key does nothing here."
 _HELP = "Keys "
 # of a text that isn't in the book
-_WAY_BACK = re.compile(r"\bU (?:brings|asks)\b|\bhere only until\b")
+_WAY_BACK = re.compile(r"\b(?:U|Alt-Y) (?:brings|asks)\b|\bhere only until\b")
 _HELP_SHOWN = "The keys are shown already. Escape goes back."
 # what shows keys also where ? is a letter
 _ASKS_FOR_KEYS = ("f1", "a-?")

@@ -54,10 +54,15 @@ class TypedLast:
             return
         self._text = _last_of(self._text + written(text))
 
+    def note_again(self, text: str) -> None:
+        """Notes a text that is typed further, if it isn't there any more."""
+        if _in_one_line(text) not in self.text:
+            self.note(f"{PARTED}{text}{PARTED}")
+
     @property
     def text(self) -> str:
-        """All of it in one line, in which other ends of lines are blanks."""
-        return _NO_TEXT.sub(" ", self._text).strip()
+        """All of it, in one line."""
+        return _in_one_line(self._text)
 
     def bring(self) -> str:
         """All of it, to be typed further."""
@@ -81,6 +86,11 @@ class TypedLast:
             if not self.is_kept:
                 self._drafts.keep_typed_last(text)
                 self._kept = text
+
+
+def _in_one_line(text: str) -> str:
+    """A text in which ends of lines, and what else is no text, are blanks."""
+    return _NO_TEXT.sub(" ", text).strip()
 
 
 def _last_of(text: str) -> str:
