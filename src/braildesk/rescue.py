@@ -30,6 +30,7 @@ _UNTOLD = frozenset(
         Why.NO_ROOM,
         Why.OVER_QUOTA,
         Why.IN_USE,
+        Why.REPLACED,
         Why.LOG_IN_USE,
         Why.NO_LOCKS,
         Why.UNKNOWN,

@@ -47,6 +47,7 @@ from braildesk.files import contents, read_version
 from braildesk.held import fit_log
 from braildesk.protocol.asked import BookFile
 from braildesk.refusals import cannot_open
+from braildesk.rescue import says_nothing
 from braildesk.snapshot import snapshot
 from braildesk.workshop import mode_of
 
@@ -83,6 +84,11 @@ def kill(session: Session) -> None:
     os.kill(session.pid, signal.SIGKILL)
     with pytest.raises(braildesk.SessionEnded):
         session.version()
+
+
+@pytest.mark.parametrize("why", [Why.IN_USE, Why.LOG_IN_USE, Why.REPLACED])
+def test_what_others_do_at_a_copy_says_nothing_of_what_its_book_has(why: Why) -> None:
+    assert says_nothing(cannot_open(BookFile("moon.braildesk"), why))
 
 
 def test_the_tables_of_a_book_are_read_with_their_texts(empty_book: Path) -> None:
