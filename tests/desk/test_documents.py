@@ -1087,6 +1087,17 @@ def test_a_drop_cap_that_is_a_word_stands_before_all_of_what_follows(
         assert (found.texts, found.missing) == ([text], ())
 
 
+@pytest.mark.parametrize("initial", ["Zebra", "The end ", "Q"])
+def test_a_drop_cap_after_which_nothing_comes_is_said_to_be_missing(
+    tmp_path: Path, initial: str
+) -> None:
+    frame = '<w:framePr w:dropCap="drop" w:lines="3"/>'
+    body = paragraph(run("The moon")) + paragraph(run(initial), properties=frame)
+    found = read_manuscript(docx(tmp_path / "a.docx", body))
+    assert found.texts == ["The moon"]
+    assert [each.words for each in found.missing] == [initial.strip()]
+
+
 def test_tags_of_a_page_are_no_print_that_is_lost(tmp_path: Path) -> None:
     path = tmp_path / "tags.md"
     path.write_text("<nav>\n\nThe moon\n\n</nav>\n\n\\newpage\n")

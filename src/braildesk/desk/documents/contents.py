@@ -567,6 +567,9 @@ def _paragraphs(element: Element) -> Iterator[str]:
             yield text
         for box in inner:
             yield from _paragraphs(box)
+    if initial.strip():
+        # pandoc waits for what comes after it, and may leave it out
+        yield initial
 
 
 def _codes(root: Element) -> Iterator[str]:
