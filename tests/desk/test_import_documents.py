@@ -14,6 +14,7 @@ import pytest
 from braildesk import Session, SessionEnded, Style
 from braildesk.desk.documents.kinds import ManuscriptKind
 from braildesk.desk.documents.options import ReadingOptions
+from braildesk.desk.documents.reading import Part
 from braildesk.desk.drafts import Drafts
 from braildesk.desk.import_note import How, ImportNote, note_in
 from braildesk.desk.manuscript import TextLine, Passage, Position
@@ -492,6 +493,20 @@ def test_characters_for_which_a_book_has_others_are_replaced_as_those() -> None:
     (made,) = replacer.passages([Passage((line,))])
     assert made.text == "10 Ohm, 3 Kelvin, é é"
     assert [each.count for each in replacer.counts] == [1, 1]
+
+
+def test_characters_are_replaced_also_where_a_file_has_them_taken_apart() -> None:
+    # as other systems write names and texts
+    line = TextLine("e\u0301 Zdene\u030ck q\u0307.", Position(1, 5))
+    replacer = Replacer((("é", "ee"), ("ě", "e"), ("\u0307", "")))
+    (made,) = replacer.passages([Passage((line,))])
+    assert made.text == "ee Zdenek q."
+    assert [each.count for each in replacer.counts] == [1, 1, 1]
+    assert [made.position(place).column for place in range(len(made.text))] == [
+        *(5, 5, 7, 8, 9, 10, 11, 12, 14, 15, 16, 18)
+    ]
+    (part,) = replacer.parts([Part(line.text)])
+    assert part.text == "ee Zdenek q."
 
 
 @pytest.mark.parametrize(

@@ -5,7 +5,7 @@ book, and stand for its next manuscripts too.
 """
 
 import re
-from collections.abc import Iterable
+from collections.abc import Iterable, Sequence
 from dataclasses import dataclass, replace
 from pathlib import Path
 from typing import TYPE_CHECKING
@@ -16,7 +16,7 @@ from braildesk.desk.manuscript import TextLine, Passage, UnreadableText, text_li
 from braildesk.named_files import read_file
 from braildesk.protocol.value import Value
 from braildesk.text import limits
-from braildesk.text.sequences import composed
+from braildesk.text.sequences import composed, sequences
 
 if TYPE_CHECKING:
     from braildesk.desk.documents.reading import Part
@@ -86,22 +86,22 @@ class Replacer:
         return tuple(passage for passage in made if passage.lines)
 
     def _replaced(self, text: str) -> str:
-        return self._sought.sub(self._new, _as_in_print(text))
+        return self._sought.sub(self._new, composed(text))
 
     def _line(self, line: TextLine) -> TextLine | None:
         """A line with the new characters, none if nothing is left of it."""
         pieces: list[str] = []
         columns: list[int] = []
-        place, its = 0, _as_in_print(line.text)
+        place, (its, places) = 0, _in_print(line.text)
         for found in self._sought.finditer(its):
             pieces += (its[place : found.start()], self._new(found))
-            columns += range(place, found.start())
-            columns += [found.start()] * len(pieces[-1])
+            columns += places[place : found.start()]
+            columns += [places[found.start()]] * len(pieces[-1])
             place = found.end()
         if not place:
             return line
         pieces.append(its[place:])
-        columns += range(place, len(its) + 1)
+        columns += places[place:]
         text = "".join(pieces)
         front = len(text) - len(text.lstrip(" "))
         shown = text.strip(" ")
@@ -114,11 +114,20 @@ class Replacer:
         return self._by[found[0]]
 
 
-def _as_in_print(text: str) -> str:
-    """A text in which each character for which a book has another one, as for U+2126, is that one."""
-    if text.isascii():
-        return text
-    return "".join(its if len(its := composed(each)) == 1 else each for each in text)
+def _in_print(text: str) -> tuple[str, Sequence[int]]:
+    """A text as a book has it, and where each of its characters, and its end, is in the text."""
+    made = composed(text)
+    if made == text:
+        return text, range(len(text) + 1)
+    places: list[int] = []
+    place = 0
+    for each in sequences(text):
+        # what a sequence has that is shorter then begins where that does
+        places += [
+            min(place + n, place + len(each) - 1) for n in range(len(composed(each)))
+        ]
+        place += len(each)
+    return made, [*places, place]
 
 
 def read_replacements(path: Path) -> Pairs:
