@@ -197,6 +197,11 @@ class Session(Asking):
         return self._strayed
 
     @property
+    def lost(self) -> Lost | None:
+        """The exception by which the session ended too early, if it did."""
+        return self._lost
+
+    @property
     def last_version(self) -> int:
         """The version of the book that was last reported."""
         return self._seen

@@ -25,6 +25,7 @@ from braildesk.protocol.requests import Command
 
 from scribe.cli import run_words
 from scribe.words.console import Console
+from scribe.words.status import Interrupted
 from sitting import Sat, Sit
 from stand_in import KEPT, KILL_BOTH, KILL_PROGRAM, READ, REPLY
 from strangers import NEEDS_ROOT, as_stranger, lead_to
@@ -233,6 +234,46 @@ def test_an_import_whose_book_is_replaced_goes_on_where_that_is_saved(
     assert ran(*cut.said.splitlines()[-1].split()[-6:]).status == 0
     assert prints(saved) == ["front", "end", *LINES]
     assert prints(front) == ["front", "end"]
+
+
+@pytest.mark.parametrize("is_there", [True, False])
+def test_an_import_that_is_stopped_as_its_book_is_taken_away_says_where_that_is_saved(
+    front: Path, monkeypatch: pytest.MonkeyPatch, is_there: bool
+) -> None:
+    monkeypatch.setattr("braildesk.session._AHEAD", 8)
+    earlier = Path(shutil.copyfile(front, front.with_name("earlier")))
+
+    def stopped(
+        session: Session, asked: Iterator[Command[Any]], progress: Callable[[int], None]
+    ) -> Iterator[Any]:
+        for number, answer in enumerate(answers(session, asked, progress), 1):
+            yield answer
+            if number == 5:
+                earlier.replace(front) if is_there else front.unlink()
+                raise Interrupted(signal.SIGTERM)
+
+    console = Console(BytesIO(), StringIO(), said := StringIO())
+    with monkeypatch.context() as patched, pytest.raises(Interrupted) as caught:
+        patched.setattr("braildesk.desk.typist.answers", stopped)
+        run_words(["import", str(front), "text.txt", "--lines"], console)
+    assert caught.value.is_said
+    saved = front.with_name(f"{front.name}-saved-1")
+    kept = len(prints(saved)) - 2
+    assert kept >= 5
+    what = "another one was put there" if is_there else "it was removed or moved"
+    assert said.getvalue() == (
+        "Stopped by SIGTERM.\n"
+        f"The file of the book is no longer at “{front}”: {what} while it was open. All of the book,"
+        f" with what was kept last, is in the new file “{saved}”. Go on with that one, or look first"
+        " what is at the old path by now.\n"
+        f"text.txt is in the book up to line {kept}, which is the end of paragraph {kept + 2} of"
+        " the book.\n"
+    ) + (
+        f"When nothing stands in the way any more, go on by: scribe import {saved} text.txt --lines"
+        f" --from {kept + 1}\n"
+        if kept < 12
+        else ""
+    )
 
 
 def test_commands_that_are_said_take_names_that_begin_with_a_hyphen(

@@ -3,7 +3,7 @@
 from collections.abc import Callable
 from pathlib import Path
 
-from braildesk import DeskError, Displaced, Session, Typed
+from braildesk import DeskError, Displaced, Lost, Session, Typed
 from braildesk.desk import Problem
 from braildesk.desk.intake import Intake, settings
 from braildesk.desk.readings import answers
@@ -12,10 +12,17 @@ from braildesk.desk.readings import answers
 class CutShort(Problem):
     """The typing ended, by its cause, after some paragraphs were reported as kept."""
 
-    def __init__(self, done: int, cause: DeskError | KeyboardInterrupt) -> None:
-        super().__init__(done, cause)
+    def __init__(
+        self,
+        done: int,
+        cause: DeskError | KeyboardInterrupt,
+        lost: Lost | None = None,
+    ) -> None:
+        super().__init__(done, cause, lost)
         self.done = done
         self.cause = cause
+        #: How the session was lost if the book isn't at its path, also if that was seen after the cause.
+        self.displaced = lost if isinstance(lost, Displaced) else None
         #: How many of them are in the book, if that was looked for and could be seen there.
         self.kept: int | None = None
         #: Whether the last of them isn't as it was to be, as a heading.
@@ -26,12 +33,12 @@ class CutShort(Problem):
     @property
     def is_displaced(self) -> bool:
         """Whether what was typed isn't in what stands at the path of the book."""
-        return isinstance(self.cause, Displaced)
+        return self.displaced is not None
 
     @property
     def saved(self) -> Path | None:
         """The new file that has all of a book that was displaced, if there is one."""
-        its = self.cause.saved if isinstance(self.cause, Displaced) else None
+        its = None if self.displaced is None else self.displaced.saved
         return None if its is None else Path(its)
 
 
@@ -50,7 +57,7 @@ def type_all(
                 done += isinstance(answer, Typed)
             report(done)
     except (DeskError, KeyboardInterrupt) as cause:
-        raise CutShort(done, cause) from cause
+        raise CutShort(done, cause, session.lost) from cause
 
 
 def look_for(path: Path, intake: Intake, wait: float, cut: CutShort) -> None:

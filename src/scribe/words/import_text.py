@@ -144,7 +144,11 @@ def _part_typed(
         console.say(*left)
         raise cut.cause from None
     sentence, status = _cut_short(cut)
-    console.say(sentence, *left)
+    besides = []
+    if cut.displaced is not None and cut.displaced is not cut.cause:
+        # its file was taken away before the session was closed
+        besides.append(cut.displaced.sentence)
+    console.say(sentence, *besides, *left)
     if isinstance(cut.cause, KeyboardInterrupt):
         raise Interrupted.after(cut.cause) from cut
     return Outcome(status, _part_kept(cut), cut.kept)
