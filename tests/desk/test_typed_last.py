@@ -8,6 +8,7 @@ import stat
 import time
 from collections.abc import Callable
 from pathlib import Path
+from threading import Thread
 
 import pytest
 
@@ -16,6 +17,7 @@ from braildesk.desk.draft import Aim, Draft
 from braildesk.desk.drafts import MOST_TYPED_LAST, Begun, Drafts
 from braildesk.desk.own_folder import OwnFolder
 
+from scribe.words import typed_last
 from scribe.words.typed_last import BROUGHT, NOTHING, PARTED, TypedLast
 from sitting import Sit
 from terminal import Open, Terminal
@@ -153,6 +155,26 @@ def test_what_others_typed_meanwhile_comes_before_what_is_typed_since(
     kept_at.write_text("")
     typed.begin()
     assert typed.text == whole
+
+
+def test_what_is_typed_as_it_is_seen_what_others_typed_comes_after_that(
+    file: Path, kept_at: Path, monkeypatch: pytest.MonkeyPatch
+) -> None:
+    typed, other = begun(file), begun(file)
+    other.note("It rose.")
+    other.keep()
+    key = Thread(target=typed.note, args=[" Noon."])
+    after = typed_last._after
+
+    def while_a_key_comes(before: str, text: str) -> str:
+        key.start()
+        key.join(0.2)
+        return after(before, text)
+
+    monkeypatch.setattr(typed_last, "_after", while_a_key_comes)
+    typed.begin()
+    key.join()
+    assert typed.text == "It rose. Noon."
 
 
 def test_keys_that_type_nothing_push_nothing_out(file: Path, kept_at: Path) -> None:

@@ -34,7 +34,7 @@ class TypedLast:
         self._kept: str | None = None
         # all of it as it was last brought back
         self._brought = ""
-        self._keeping = Lock()
+        self._keeping, self._noting = Lock(), Lock()
 
     def begin(self) -> None:
         """Takes up what was kept at another time, or by others while the book wasn't open here."""
@@ -43,16 +43,18 @@ class TypedLast:
             if not kept and before:
                 # it can't be read
                 return
-            # what was typed here since this was kept comes after it
-            since = _after(before or "", self._text)
-            self._kept, self._text = kept, _last_of(kept + since)
+            # what was typed here since this was kept comes after it, and so does what comes now
+            with self._noting:
+                since = _after(before or "", self._text)
+                self._kept, self._text = kept, _last_of(kept + since)
 
     def note(self, text: str) -> None:
         """Notes what a key typed, what was pasted, or what an input method handed over."""
-        if text in _BETWEEN and self._text[-1:] in _BETWEEN:
-            # of many keys that type nothing one is enough
-            return
-        self._text = _last_of(self._text + written(text))
+        with self._noting:
+            if text in _BETWEEN and self._text[-1:] in _BETWEEN:
+                # of many keys that type nothing one is enough
+                return
+            self._text = _last_of(self._text + written(text))
 
     def note_again(self, text: str) -> None:
         """Notes a text that is typed further, if it isn't there any more."""
