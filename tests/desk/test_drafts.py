@@ -1367,3 +1367,28 @@ def test_what_others_typed_is_said_also_where_what_waits_here_can_not_be_kept_af
             here.keep(ours)
     here.keep(ours)
     assert (drafts.waiting(), drafts.given_up()) == (ours, (theirs,))
+
+
+@pytest.mark.parametrize("is_taken_up", [False, True])
+def test_what_was_left_for_later_waits_on_once_another_session_ended(
+    store: Path, tmp_path: Path, is_taken_up: bool
+) -> None:
+    book = tmp_path / "book.braildesk"
+    book.write_bytes(b"a book")
+    drafts = Drafts(book)
+    first, second = (Draft(Aim.AFTER, 1, "en", "", f"Text {n}.") for n in (1, 2))
+    drafts.save(first)
+    here, other = Unsent(drafts), Unsent(drafts)
+    for unsent in (here, other):
+        unsent.read()
+        unsent.put_off()
+    if is_taken_up:
+        other.take_on(first)
+    other.keep(second)
+    assert here.others() == (second, "")
+    here.keep(None)
+    assert drafts.waiting() == (None if is_taken_up else first)
+    here.keep(second)
+    here.keep(None)
+    assert drafts.waiting() == (None if is_taken_up else first)
+    assert [each.text for each in drafts.given_up()] == ["Text 2."]
