@@ -140,7 +140,7 @@ def test_what_others_typed_meanwhile_comes_before_what_is_typed_since(
     assert typed.text == "It rose. It set. Noon."
     # also where there is more than is kept
     other.begin()
-    other.note("b" * (MOST_TYPED_LAST - 20))
+    other.note("b" * (MOST_TYPED_LAST - 21))
     other.keep()
     typed.begin()
     typed.keep()
@@ -148,13 +148,28 @@ def test_what_others_typed_meanwhile_comes_before_what_is_typed_since(
     other.keep()
     typed.note(" Now")
     typed.begin()
-    assert typed.text.endswith("bb Then Now")
+    assert typed.text.endswith("bb Noon. Then Now")
     assert "Now" not in typed.text[:-3] and len(typed.text) == MOST_TYPED_LAST
     whole = typed.text
     # where it can't be read, what is known of it stays
     kept_at.write_text("")
     typed.begin()
     assert typed.text == whole
+
+
+def test_of_two_that_are_open_at_one_time_neither_takes_away_what_was_typed_in_the_other(
+    file: Path, kept_at: Path
+) -> None:
+    typed, other = begun(file), begun(file)
+    for each, text in ((typed, "It rose."), (other, " It set."), (typed, " Noon.")):
+        each.note(text)
+        each.keep()
+    assert begun(file).text == typed.text == "It rose. It set. Noon."
+    # what can't be read takes away nothing either
+    kept_at.write_text("")
+    typed.note(" Night.")
+    typed.keep()
+    assert begun(file).text == "It rose. It set. Noon. Night."
 
 
 def test_what_is_typed_as_it_is_seen_what_others_typed_comes_after_that(

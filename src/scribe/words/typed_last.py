@@ -39,14 +39,18 @@ class TypedLast:
     def begin(self) -> None:
         """Takes up what was kept at another time, or by others while the book wasn't open here."""
         with self._keeping:
-            kept, before = self._drafts.typed_last(), self._kept
-            if not kept and before:
-                # it can't be read
-                return
-            # what was typed here since this was kept comes after it, and so does what comes now
-            with self._noting:
-                since = _after(before or "", self._text)
-                self._kept, self._text = kept, _last_of(kept + since)
+            self._take_up()
+
+    def _take_up(self) -> None:
+        """Has what is kept by now, also by others, come before what was typed here since it was kept."""
+        kept, before = self._drafts.typed_last(), self._kept
+        if not kept and before:
+            # it can't be read
+            return
+        # what comes now comes after it too
+        with self._noting:
+            since = _after(before or "", self._text)
+            self._kept, self._text = kept, _last_of(kept + since)
 
     def note(self, text: str) -> None:
         """Notes what a key typed, what was pasted, or what an input method handed over."""
@@ -84,8 +88,9 @@ class TypedLast:
     def keep(self) -> None:
         """Keeps it; where that can't be, nothing is said, since all that matters is kept elsewhere."""
         with self._keeping, suppress(NotKept):
-            text = self._text
             if not self.is_kept:
+                self._take_up()
+                text = self._text
                 self._drafts.keep_typed_last(text)
                 self._kept = text
 
