@@ -439,6 +439,31 @@ def test_a_first_paragraph_is_given_a_table_while_it_is_typed(
     assert _prints(empty) == [typed] * bool(typed)
 
 
+@pytest.mark.parametrize("act", ["to_print", "new_after"])
+@pytest.mark.parametrize("is_refused_before", [True, False])
+def test_that_no_table_can_be_chosen_while_a_refused_text_is_typed_is_said(
+    desk: Desk, given: Answers, act: str, is_refused_before: bool
+) -> None:
+    desk.act(act)
+    desk.window.print.insertPlainText("#")
+    typed, tables = desk.window.print.text, [p.table for p in desk.contents.paragraphs]
+    if is_refused_before:
+        desk.act("keep")
+    given["one_of"] = "ueb"
+    desk.act("table")
+    said = desk.window.message.text
+    assert said.startswith("Again: " * is_refused_before + "The table ")
+    assert "no cells for “#”" in said
+    assert said.endswith(
+        " No other table can be chosen until what is typed is kept or given up."
+    )
+    assert desk.window.print.text == typed
+    assert [each.table for each in desk.contents.paragraphs] == tables
+    desk.act("give_up")
+    desk.act("table")
+    assert "ueb" in [each.table for each in desk.contents.paragraphs]
+
+
 @pytest.mark.parametrize(
     "act, count, said",
     [

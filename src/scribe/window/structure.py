@@ -16,6 +16,7 @@ from scribe.words.status import Stop
 _HISTORY_COLUMNS = 72
 _FROM_A_FILE = "From a file…"
 _TABLES = "Tables (*.utb);;All files (*)"
+_NO_TABLE = "No other table can be chosen until what is typed is kept or given up."
 
 
 class Structure:
@@ -62,6 +63,7 @@ class Structure:
         # which refuses what is typed where that is by another table
         is_first = desk.new is not None and not desk.contents.paragraphs
         if not is_first and not desk.settle():
+            desk.say_too(_NO_TABLE * (not desk.is_closed))
             return
         if desk.is_closed:
             raise Stop(desk.closed)
