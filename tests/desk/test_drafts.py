@@ -1280,9 +1280,8 @@ def test_what_another_session_left_for_later_stays_among_what_waits(
     assert waiting is not None and waiting.text == "Text 0."
 
 
-@pytest.mark.parametrize("is_beside", [True, False])
 def test_what_is_left_for_later_here_waits_on_after_another_session_had_its_text_wait(
-    moon: Path, store: Path, is_beside: bool
+    moon: Path, store: Path
 ) -> None:
     drafts = Drafts(moon)
     ours, theirs = (
@@ -1293,8 +1292,8 @@ def test_what_is_left_for_later_here_waits_on_after_another_session_had_its_text
     here.keep(ours)
     here.put_off()
     here.keep(None)
-    # in whose place it is left for later there too, or was typed further
-    drafts.keep_later([ours] if is_beside else [])
+    # in whose place it is left for later there too
+    drafts.keep_later([ours])
     drafts.save(theirs)
     assert here.others() == (theirs, "")
     for _ in range(2):

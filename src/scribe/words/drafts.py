@@ -304,13 +304,14 @@ class Unsent:
             found = self._drafts.waiting()
             if found == its or found and its and found.is_same_as(its):
                 return None
-            later = *self._later, *self._put_off
-            left = [each for each in (its, found) if each and each in later]
+            is_left = found in (*self._later, *self._put_off)
             # until what waits here is kept in its place
             self.waiting = found
+            # what is left for later only here was typed further, or given up, in the other session
             self._read_later()
-            self._later = tuple(dict.fromkeys((*left, *self._later)))
-            theirs = None if found in left else found
+            if found and is_left:
+                self._later = tuple(dict.fromkeys((found, *self._later)))
+            theirs = None if is_left else found
             how = self.put_by(theirs) if theirs else ""
             with suppress(NotKept):
                 self.keep(its)
