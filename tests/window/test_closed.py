@@ -824,6 +824,29 @@ def test_of_a_book_of_which_the_file_is_gone_it_is_said_where_it_is_until_that_i
     assert message.text.startswith(f"{opened} open")
 
 
+@pytest.mark.parametrize("is_moved", [False, True])
+def test_of_a_file_with_all_of_a_book_it_is_not_said_at_the_end_to_be_where_it_is_gone(
+    shelved: Desk, stays: list[str], is_moved: bool
+) -> None:
+    desk, field = shelved, shelved.window.print
+    field.insertPlainText("Es war ")
+    saved = desk.path.with_name(f"{desk.path.name}-saved-1")
+    if is_moved:
+        folder = desk.path.parent.rename(desk.path.parent.with_name("older"))
+        saved = folder / desk.path.name
+    else:
+        desk.path.unlink()
+    desk.act("keep")
+    cause = desk.loss.split(" while it was open. ")[0] + " while it was open."
+    assert saved.exists() and desk.so_now(desk.loss) == desk.loss
+    assert str(saved) in desk.loss
+    saved.unlink()
+    gone = f"{cause} All of the book was in “{saved}”, where no file is any more."
+    assert desk.so_now(desk.loss) == gone
+    assert not desk.is_left()
+    assert stays == [f"{gone} What was typed last was in it."]
+
+
 def test_a_text_is_dropped_on_a_book_of_which_the_file_is_gone_and_where_that_is_is_said(
     shelved: Desk, tmp_path: Path
 ) -> None:

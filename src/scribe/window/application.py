@@ -105,8 +105,8 @@ class Application:
 
     @property
     def loss(self) -> str:
-        """How the session ended, if the book wasn't opened again after that."""
-        return self._desk.loss
+        """How the session ended, if the book wasn't opened again after that, and what is so of it now."""
+        return self._desk.so_now(self._desk.loss)
 
     @property
     def strayed(self) -> str:

@@ -85,7 +85,9 @@ CLOSED = "The book is closed: Open the book again, in the menu Book, opens it."
 _GONE = "The book is closed: Its file isn't at “{path}” any more. {then}"
 _THEN = "Open the book again, in the menu Book, opens it once it is there again."
 _LAST_IS_IN_IT = "What was typed last is in it."
+_LAST_WAS_IN_IT = "What was typed last was in it."
 _SAVED = "All of the book is in “{saved}”, which scribe window opens."
+_WAS_SAVED = "All of the book was in “{saved}”, where no file is any more."
 _NOT_PASTED = "Nothing was pasted: a text goes into the print. F2 goes there."
 _NOT_TYPED = "Nothing is typed here: a text goes into the print. F2 goes there."
 _NOT_SHOWN = "has a character that a window can't show. scribe edit changes it."
@@ -198,7 +200,9 @@ class Desk:
         self.beside: Draft | None = None
         self.in_hand: int | None = None
         self.is_ascii = False
-        self._saved: Path | None = None  # where all of a book that is gone was saved
+        # where all of a book that is gone was saved, and what was said of that then
+        self._saved: Path | None = None
+        self._said_saved = ""
         self.acts: dict[str, Callable[[], None]] = {}
         self._taken_back = TakenBack()
         # what of that was given up in this print, by how it reads, and what is said of it
@@ -577,6 +581,15 @@ class Desk:
             return CLOSED
         then = _SAVED.format(saved=saved) if is_saved else _THEN
         return _GONE.format(path=self.path, then=then)
+
+    def so_now(self, said: str) -> str:
+        """What was said of a book that is closed, as it is so now: the file with all of it may be gone."""
+        saved, kept = self._saved, self._said_saved
+        if saved is None or not is_gone(saved):
+            return said
+        was = _WAS_SAVED.format(saved=saved)
+        said = said.replace(kept, was).replace(visible(kept), visible(was))
+        return said.replace(_LAST_IS_IN_IT, _LAST_WAS_IN_IT)
 
     # what is chosen and shown
 
@@ -1650,7 +1663,7 @@ class Desk:
     def _follow(self, lost: Lost) -> None:
         """Has what isn't in the book be offered where all of a book that is gone was saved."""
         if isinstance(lost, Displaced) and lost.saved is not None:
-            self._saved = Path(lost.saved)
+            self._saved, self._said_saved = Path(lost.saved), lost.kept
             self.drafts.copy_to(self._saved)
 
     def taken_again(self, contents: Contents) -> str:
@@ -1742,7 +1755,7 @@ class Desk:
 
     def is_left(self) -> bool:
         """Asks whether the window goes while something is typed that wasn't kept."""
-        said = self.window.message.text
+        said = self.work.result(partial(self.so_now, self.window.message.text))
         if self.draft() is None:
             # all is in the book, which is elsewhere by now
             return self.answer("Closed", said, _OF_CLOSING) == 0
