@@ -4,17 +4,25 @@
 what Orca had to say of each part is put together from the bus.
 """
 
+import time
 from collections.abc import Iterator
 from pathlib import Path
 
 import pytest
+from PyQt6.QtCore import QEvent, QObject, QTimer
+from PyQt6.QtWidgets import QApplication, QDialog
 
-from conftest import Open
+from scribe.window import dialogs
+from scribe.window.desk import Desk
+from scribe.window.worker import _MOMENT_SECONDS
+
+from conftest import Open, wait
 from reader import (
     EDITABLE,
     FOCUS,
     FOCUSABLE,
     INSERTED,
+    PATIENCE_SECONDS,
     SELECTION,
     Part,
     Reader,
@@ -325,6 +333,45 @@ def test_the_print_has_a_text_that_is_brought_back_before_it_takes_the_focus(
         window.says("All that was typed last")
     of_print = [kind for kind, name in heard if name == "Print"]
     assert of_print == [INSERTED, FOCUS]
+
+
+def test_the_print_takes_the_focus_after_a_dialog_once_it_has_its_new_text(
+    application: QApplication, desk: Desk
+) -> None:
+    window, field = desk.window, desk.window.print
+    texts, left = list[str](), list[QDialog]()
+
+    class Focus(QObject):
+        def eventFilter(self, to: QObject | None, event: QEvent | None) -> bool:
+            if to is field and event and event.type() == QEvent.Type.FocusIn:
+                texts.append(field.text)
+            return False
+
+    def enter() -> None:
+        dialog = QApplication.activeModalWidget()
+        assert isinstance(dialog, QDialog)
+        dialog.accept()
+        # where a window manager gives the window the keyboard before the dialog is answered
+        assert window.focusWidget() is window
+        left.append(dialog)
+
+    def act() -> None:
+        assert dialogs.text(window, "Find", "Words:", "sea") == "sea" and left
+        assert window.focusWidget() is field
+        desk.asked(lambda: time.sleep(3 * _MOMENT_SECONDS))
+        field.show_text("Here it is.")
+
+    window.show()
+    window.activateWindow()
+    field.setFocus()
+    assert wait(application, PATIENCE_SECONDS, field.hasFocus)
+    focus = Focus()
+    application.installEventFilter(focus)
+    QTimer.singleShot(500, enter)
+    desk.acting(act)
+    assert wait(application, PATIENCE_SECONDS, field.hasFocus)
+    application.removeEventFilter(focus)
+    assert texts == ["Here it is."]
 
 
 def test_what_is_spoken_stays_until_something_else_is_said(window: Reader) -> None:

@@ -200,3 +200,18 @@ def test_keys_while_something_takes_long_end_it_or_are_a_text_that_is_set_aside(
     assert typed[-1] == aside
     worker.stop()
     held.stop()
+
+
+def test_nothing_comes_for_a_moment_after_a_dialog_while_something_is_waited_for(
+    application: QApplication,
+) -> None:
+    (held := Held()).stand_still()
+    worker, came = Worker(held), list[bool]()
+    QTimer.singleShot(0, lambda: came.append(True))
+    worker.result(lambda: time.sleep(0.1))
+    assert not came
+    time.sleep(held.still_seconds)
+    worker.result(lambda: time.sleep(0.2))
+    assert came
+    worker.stop()
+    held.stop()

@@ -686,6 +686,7 @@ class Desk:
         if is_covered:
             self._beneath = field.text, cursor.anchor(), cursor.position()
             return
+        self.held.stand_still()
         before, anchor, position = self._beneath
         if field.text == before or self.is_ending:
             return

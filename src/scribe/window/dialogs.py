@@ -36,6 +36,7 @@ from scribe.window.typed_on import (
     taking_at_progress,
     taking_at_question,
 )
+from scribe.window.window import Window
 from scribe.window.worker import Worker
 
 Result = TypeVar("Result")
@@ -62,6 +63,8 @@ def _back_to(over: QWidget | None, dialog: QDialog | None = None) -> Iterator[No
         if dialog is not None:
             dialog.setParent(None)  # type: ignore[call-overload]
             dialog.deleteLater()
+        if isinstance(over, Window):
+            over.give_focus()
         if over is not None:
             over.activateWindow()
 

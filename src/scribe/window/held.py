@@ -30,6 +30,8 @@ _OF_TEXT = frozenset((_KINDS.KeyPress, _KINDS.InputMethod))
 _KEYS = frozenset((_KINDS.KeyPress, _KINDS.KeyRelease))
 # after so long without a letter nobody types on
 _PAUSE_SECONDS = 0.3
+# for so long after a dialog was closed nothing comes, so that no part takes the focus as it was before
+_STILL_SECONDS = 0.4
 # what is dragged, which is there only for now
 _OF_DRAGS = frozenset((_KINDS.DragEnter, _KINDS.DragMove, _KINDS.Drop))
 # the property of dialogs of which a line takes what came before it was there
@@ -87,6 +89,8 @@ class Held(QObject):
         self._let_go_at = 0
         # whether the window for which it is isn't shown any more
         self._is_over = False
+        # until when nothing comes
+        self._still_until = -math.inf
         # when a letter came last, and whether that counts no more
         self._typed_at, self._is_hurried = -math.inf, False
         self._soon = QTimer(self)
@@ -103,6 +107,18 @@ class Held(QObject):
         return (
             not self._is_hurried and time.monotonic() < self._typed_at + _PAUSE_SECONDS
         )
+
+    def stand_still(self) -> None:
+        """Has nothing come for a moment, in which a part takes the focus, while something is waited for.
+
+        A screen reader would read the part as it was before a dialog, and not what became of that.
+        """
+        self._still_until = time.monotonic() + _STILL_SECONDS
+
+    @property
+    def still_seconds(self) -> float:
+        """For how long nothing comes."""
+        return max(0.0, self._still_until - time.monotonic())
 
     def hurry(self) -> None:
         """Has nothing wait any more until hands type no more, since the window is ended from outside."""

@@ -79,6 +79,8 @@ class Window(QMainWindow):
     ) -> None:
         super().__init__()
         self._is_closing = is_closing
+        # the part that has the focus again once a dialog is answered
+        self._later: QWidget | None = None
         self.setWindowTitle(title_of(name))
         self.setAcceptDrops(True)
         self.model = Paragraphs(ask)
@@ -168,9 +170,27 @@ class Window(QMainWindow):
         if event is None:
             return False
         kind, kinds = event.type(), QEvent.Type
+        if kind == kinds.WindowUnblocked:
+            self._hold_focus()
         if kind in (kinds.WindowBlocked, kinds.WindowUnblocked):
             self.covered.emit(kind == kinds.WindowBlocked)
         return super().event(event)
+
+    def _hold_focus(self) -> None:
+        """Has no part take the focus before it is known what a dialog was answered.
+
+        A window manager gives this the keyboard as the dialog goes, and a screen reader would read the
+        part as it was.
+        """
+        if self.focusWidget() not in (None, self):
+            self._later = self.focusWidget()
+            self.setFocus()
+
+    def give_focus(self) -> None:
+        """Gives the focus to the part that had it before a dialog."""
+        later, self._later = self._later, None
+        if later is not None and self.focusWidget() is self:
+            later.setFocus()
 
     def resizeEvent(self, event: QResizeEvent | None) -> None:
         """What has the focus stays in sight."""

@@ -69,8 +69,9 @@ class Worker(QObject):
         job = _Job(act, lambda future: None)
         self._put(job, is_first)
         # a time that ran out within the work looks the same, and is raised below
+        moment = max(_MOMENT_SECONDS, self._held.still_seconds)
         with suppress(NotYet):
-            return cast(Result, job.future.result(timeout=_MOMENT_SECONDS))
+            return cast(Result, job.future.result(timeout=moment))
         self._wait_for(job)
         return cast(Result, job.future.result())
 
