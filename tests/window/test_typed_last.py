@@ -10,8 +10,10 @@ from PyQt6.QtCore import QCoreApplication, QMimeData, QTimer
 from PyQt6.QtGui import QInputMethodEvent
 from PyQt6.QtWidgets import QApplication, QDialog
 
+from braildesk.desk.draft import Aim, Draft
 from braildesk.desk.drafts import Drafts
 
+from scribe.window import dialogs
 from scribe.window.desk import Desk
 from scribe.words.typed_last import BROUGHT, NOTHING
 
@@ -119,6 +121,18 @@ def test_what_is_pasted_and_what_an_input_method_hands_over_is_noted(
         QCoreApplication.sendEvent(field, handed)
     assert desk.typed_last.text == "It rose. It set.oùoù"
     desk.act("give_up")
+
+
+def test_a_text_that_was_brought_back_is_there_whatever_keys_take_out_of_it(
+    desk: Desk, monkeypatch: pytest.MonkeyPatch
+) -> None:
+    desk.unsent.put_by(Draft(Aim.AFTER, 1, "en", "", "It rose early."))
+    monkeypatch.setattr(dialogs, "one_of", lambda *its: its[3][0])
+    desk.act("bring_back")
+    assert desk.draft() is not None and desk.unsent.texts() == ()
+    desk.window.print.textCursor().document().clear()
+    desk.act("give_up")
+    assert desk.typed_last.text == "It rose early."
 
 
 @pytest.mark.parametrize("text, set_aside", [("é", []), ("été", ["été"])])

@@ -1076,12 +1076,7 @@ class Desk:
         draft = draft_of(state)
         if draft is None:
             return state
-        text = draft.text
-        if draft.aim is Aim.EDIT and state.reading:
-            least = smallest_correction(state.reading.text, text)
-            text = least.text if least else ""
-        # keys may take out of it what nothing else keeps then
-        self.typed_last.note_again(text)
+        self.typed_last.note_again(draft)
         try:
             self._unsent.take_up(draft, saved)
         except NotKept as fault:

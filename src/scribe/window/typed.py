@@ -269,6 +269,7 @@ class Typed:
     def type_further(self, draft: Draft) -> None:
         """Has a text be typed further that waits or was given up."""
         desk = self.desk
+        desk.typed_last.note_again(draft)
         # until it is in its place it waits as it is
         desk.have_wait(draft)
         try:

@@ -7,7 +7,8 @@ import re
 from contextlib import suppress
 from threading import Lock
 
-from braildesk.desk.draft import written
+from braildesk.desk.correction import smallest_correction
+from braildesk.desk.draft import Aim, Draft, written
 from braildesk.desk.drafts import MOST_TYPED_LAST, Drafts, NotKept
 
 #: What is said where it is asked for: that there is none, or that it is typed anew.
@@ -60,8 +61,15 @@ class TypedLast:
                 return
             self._text = _last_of(self._text + written(text))
 
-    def note_again(self, text: str) -> None:
-        """Notes a text that is typed further, if it isn't there any more."""
+    def note_again(self, draft: Draft) -> None:
+        """Notes a text that is typed further, or what is new of a print, if it isn't there any more.
+
+        Keys may take out of it what nothing else keeps then.
+        """
+        text = draft.text
+        if draft.aim is Aim.EDIT:
+            least = smallest_correction(draft.before, text)
+            text = least.text if least else ""
         if _in_one_line(text) not in self.text:
             self.note(f"{PARTED}{text}{PARTED}")
 
