@@ -172,6 +172,8 @@ class Desk:
     _unheld = ""
     # what the message says of what is typed, which is so until that changes
     _of_typed = ""
+    # what was said then of where all of a book that is gone was saved
+    _said_saved = ""
     # something is asked for which no key has asked, and the text that is typed there
     _is_offering = False
     _at_offer: Unread | None = None
@@ -200,9 +202,7 @@ class Desk:
         self.beside: Draft | None = None
         self.in_hand: int | None = None
         self.is_ascii = False
-        # where all of a book that is gone was saved, and what was said of that then
-        self._saved: Path | None = None
-        self._said_saved = ""
+        self._saved: Path | None = None  # where all of a book that is gone was saved
         self.acts: dict[str, Callable[[], None]] = {}
         self._taken_back = TakenBack()
         # what of that was given up in this print, by how it reads, and what is said of it
