@@ -6,8 +6,9 @@ import pytest
 from tool import Ran, scribe
 
 from braildesk import Mark, Session
-from braildesk.desk.marks import mark_words
+from braildesk.desk.marks import all_marks, mark_words
 from braildesk.desk.places import Words
+from braildesk.desk.search import Spot, next_mark
 
 CONTRACTIONS = b"""space \\s 0
 letter s 234
@@ -267,3 +268,19 @@ def test_marks_of_a_struck_paragraph_are_said_to_be_in_one(marked: Path) -> None
     shown = marks(marked).shown.splitlines()
     assert shown[0] == "Mark 3, open, paragraph 2, struck, on “moons”: one moon"
     assert shown[1] == "Mark 1, open, paragraph 1, on “20”: the day?"
+
+
+def test_marks_that_begin_at_one_character_are_listed_as_n_goes_along_them(
+    moon: Path,
+) -> None:
+    with Session(moon) as session:
+        mark_words(session, Words(2, "moons"), "which?")
+        mark_words(session, Words(2, "moon"), "one?")
+        book, spot = session.paragraphs(), Spot(0, 0)
+        gone_to = []
+        for _ in range(2):
+            found = next_mark(session, book, spot, False)
+            assert found is not None and not found.is_around
+            spot = found.spot
+            gone_to.append(spot.mark)
+        assert gone_to == [each.mark.id for each in all_marks(session)] == [1, 2]

@@ -36,7 +36,7 @@ def all_marks(session: Session) -> list[MarkOfBook]:
 
 
 def _in_order(session: Session) -> list[MarkOfBook]:
-    """The marks of a book by paragraph and place."""
+    """The marks of a book by paragraph and first character, as they are looked for."""
     book = session.paragraphs()
     marks = list(answers(session, (requests.Marks(each.id) for each in book)))
     pairs = [(each, its) for each, its in zip(book, marks) if its]
@@ -44,7 +44,7 @@ def _in_order(session: Session) -> list[MarkOfBook]:
     return [
         MarkOfBook(mark, paragraph.id, text, paragraph.struck)
         for (paragraph, its), text in zip(pairs, texts)
-        for mark in sorted(its, key=lambda mark: (mark.start, mark.stop, mark.id))
+        for mark in sorted(its, key=lambda mark: (mark.start, mark.id))
     ]
 
 
