@@ -606,12 +606,18 @@ class Session(Asking):
         """The print of all paragraphs, with an empty line between each and the next."""
         return "\n\n".join(self.print_of(each.id) for each in self.paragraphs()) + "\n"
 
+    def _where_kept(self) -> str:
+        """Where all is that was reported as kept, once the program ended."""
+        if self._file.is_at_its_path:
+            return "All up to it is in the book."
+        return self._rescue.without_file()
+
     def _kept(self, waiting: Sequence[Command[Any]]) -> str:
         """What is in the book after all, and what may be."""
         if self._acknowledged is not None:
             known = (
                 f"The last command that was reported as kept is {self._acknowledged.in_words()}, by"
-                f" which the book came to version {self._seen}. All up to it is in the book."
+                f" which the book came to version {self._seen}. {self._where_kept()}"
             )
         elif waiting:
             known = "No command of this session was reported as kept."

@@ -770,6 +770,21 @@ def test_of_a_book_whose_folder_was_renamed_it_is_said_where_it_was(
     )
 
 
+def test_of_a_book_that_is_gone_as_its_program_ends_it_is_said_where_it_was(
+    book: Path,
+) -> None:
+    with pytest.raises(SessionEnded) as caught, Session(book) as session:
+        session.add_paragraph("end", "en", "One.")
+        book.rename(book.with_name("other"))
+        os.kill(session.pid, signal.SIGKILL)
+        session.version()
+    assert caught.value.kept == (
+        "The last command that was reported as kept is the new paragraph “One.”, by which the book"
+        f" came to version 2. All up to it was in the book's file and its log, “{book}-wal”. The"
+        f" file of the book is no longer at “{book}”: it was removed or moved while it was open."
+    )
+
+
 def test_a_book_is_saved_also_where_nothing_is_said_of_a_file_that_is_gone(
     book: Path, monkeypatch: pytest.MonkeyPatch
 ) -> None:
