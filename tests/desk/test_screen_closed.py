@@ -433,6 +433,25 @@ def test_a_text_that_can_not_be_kept_is_said_beside_where_a_book_was_saved_witho
     assert ("can'tbekept" in said) is not is_seen
 
 
+def test_of_a_file_where_all_of_a_book_was_saved_it_is_said_at_the_end_if_it_is_gone(
+    moon: Path, at: Open
+) -> None:
+    terminal = at(moon, 160)
+    terminal.wait("? shows the keys.")
+    moon.unlink()
+    terminal.keys("s")
+    terminal.wait("Enter opens what is at the path  q ends")
+    saved = moon.with_name(f"{moon.name}-saved-1")
+    # as who goes on with it does
+    saved.rename(moon)
+    terminal.answer("q")
+    assert terminal.ended() == 3
+    # a path may be parted at the end of a line
+    now, before = "".join(terminal.said.split()).split("thiswasreported:")
+    assert now.endswith(f"Nofileisat“{saved}”anymore.Whileonewasthere,")
+    assert f"isinthenewfile“{saved}”." in before
+
+
 def test_who_types_on_where_the_session_ends_does_not_end_scribe(
     moon: Path, at: Open
 ) -> None:

@@ -117,7 +117,7 @@ from scribe.screen.waiting import (
     with_typed_last,
 )
 from scribe.words import deeds, pagelook
-from scribe.words.aftermath import deed_found, found_again, kept_alone
+from scribe.words.aftermath import deed_found, found_again, is_gone, kept_alone
 from scribe.words.change_all import STAY
 from scribe.words.changes import edit_in_part, left_behind, not_given
 from scribe.words.deeds import Deed, kept, kept_parts
@@ -138,6 +138,8 @@ from scribe.words.status import Interrupted, Stop, in_sentences, of_system
 from scribe.words.typed_last import TypedLast
 
 _OPEN_AGAIN = "The book is open again."
+# of where all of a book that is gone was saved, before what was reported of that
+_NO_FILE = "No file is at “{}” any more. While one was there, this was reported:"
 # what was kept last if that isn't of this screen, and what becomes of what is
 _OF_OTHERS = "kept: another program's change"
 _LEFT = "Of what was done until now, u takes back only corrections."
@@ -817,6 +819,13 @@ class Desk:
         if lost.saved is not None:
             self._saved = Path(lost.saved)
             self._copy_kept()
+
+    @property
+    def not_so_any_more(self) -> tuple[str, ...]:
+        """What isn't so of what was said of a book that is gone: the file with all of it may be gone too."""
+        if self._saved is None or not is_gone(self._saved):
+            return ()
+        return (_NO_FILE.format(self._saved),)
 
     def _copy_kept(self) -> None:
         """Has what is kept by now be found where all of a book that is gone was saved, too."""

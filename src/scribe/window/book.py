@@ -824,14 +824,6 @@ class OpenBook:
         return None
 
 
-def is_gone(path: Path) -> bool:
-    """Whether no file is at a path, which isn't known where that can't be looked at."""
-    try:
-        return not path.exists()
-    except OSError:
-        return False
-
-
 def _with_backs(
     found: Iterator[Change | NotChanged | Passed], backs: list[Command[Any]]
 ) -> Iterator[Change | NotChanged | Passed]:

@@ -46,7 +46,6 @@ from scribe.window.book import (
     Opening,
     ChosenParagraph,
     PartKept,
-    is_gone,
 )
 from scribe.window.dialogs import IsStopped, Say, ask, offer
 from scribe.window.fields import LINE_END
@@ -56,6 +55,7 @@ from scribe.window.taken_back import TakenBack
 from scribe.window.window import Window
 from scribe.window.worker import Worker
 from scribe.words import pagelook
+from scribe.words.aftermath import is_gone
 from scribe.words.console import WAITING
 from scribe.words.drafts import (
     Unsent,

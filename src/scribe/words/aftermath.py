@@ -113,3 +113,11 @@ def found_again(found: FoundAgain, begun: int | None = None) -> str:
         return f"{at}, and what was asked last is in it."
     more = "1 is" if kept == 1 else f"{kept:,} are"
     return f"{at}. Of {count:,} commands that were not answered, {more} in it."
+
+
+def is_gone(path: Path) -> bool:
+    """Whether no file is at a path, which isn't known where that can't be looked at."""
+    try:
+        return not path.exists()
+    except OSError:
+        return False

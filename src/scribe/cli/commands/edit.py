@@ -118,7 +118,8 @@ def _end(desk: "Desk", screen: "Screen", book: Path, console: Console) -> Status
         lines_said = screen.state.pages.lines if screen.state.pages else ()
         # what is typed stands last, and may be said there already
         is_said = not screen.unseen or screen.unseen[-1] in lines_said
-        console.say(*lines_said, *(() if is_said else screen.unseen))
+        console.say(*desk.not_so_any_more, *lines_said)
+        console.say(*(() if is_said else screen.unseen))
         return _failed(screen)
     tell_end(console, name_of(book), screen.state.version, desk.strayed)
     console.say(*screen.unseen)
