@@ -1391,3 +1391,17 @@ def test_what_was_left_for_later_waits_on_once_another_session_ended(
     here.keep(None)
     assert drafts.waiting() == (None if is_taken_up else first)
     assert [each.text for each in drafts.given_up()] == ["Text 2."]
+
+
+def test_what_waits_is_kept_again_at_the_end_where_its_folder_was_taken_away(
+    moon: Path, store: Path, sit: Sit
+) -> None:
+    sat = sit(moon)
+    sat.press("o", *"It rose.")
+    sat.state = sat.desk.save_draft(sat.state)
+    waiting = Drafts(moon).waiting()
+    assert waiting is not None and waiting.text == "It rose."
+    shutil.rmtree(store)
+    # as where it is told to end
+    sat.state = sat.desk.saved(sat.state)
+    assert Drafts(moon).waiting() == waiting

@@ -362,6 +362,7 @@ class Desk:
 
     def saved(self, state: State) -> State:
         """Does the same, and says what is in the way also where it was said before."""
+        self._unsent.see_kept()
         fault = self._keep(state)
         return state.saying_too(fault) if fault else state
 

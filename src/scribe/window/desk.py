@@ -1105,6 +1105,7 @@ class Desk:
     def waits_at_once(self) -> str:
         """Keeps what is typed as what waits, once nothing can be shown, and says so if anything is."""
         draft, held = self.draft(), self._text_elsewhere()
+        self.aside.post(self.unsent.see_kept, lambda future: None)
         self.keep_draft(draft)
         self._keep_typed_last()
         self._keep_taken_back()

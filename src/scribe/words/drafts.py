@@ -387,6 +387,14 @@ class Unsent:
         with suppress(NotKept):
             self._take_out()
 
+    def see_kept(self) -> None:
+        """Has what waits be kept again at the next keeping, if others took away what it was kept in."""
+        if self._is_hidden or self.waiting in self._here:
+            return
+        with suppress(NotKept):
+            if self._drafts.waiting() is None:
+                self.waiting = None
+
     def _next(self) -> Draft | None:
         """The text that waits once nothing is typed: of those that were left for later the newest."""
         if self._is_hidden or self.waiting in self._here:
