@@ -198,7 +198,7 @@ SAID = {
     "z": (
         STATE,
         "z",
-        "Now without the list, and without braille while you type. z brings them back.",
+        "Now without the list, and without braille while you type. z ends that.",
     ),
     "z again": (replace(STATE, is_quiet=True), "z", ""),
     "d": (

@@ -309,7 +309,7 @@ def test_of_a_book_that_was_moved_it_is_not_said_that_it_was_typed_at_this_path(
     again.press("a-y")
     assert again.state.typed and again.state.typed.text == "It rose."
     assert again.state.message == (
-        "All that is noted as typed in this book or at its path is here, kept or not."
+        "All that is noted as typed in this file or at its path is here, kept or not."
     )
 
 

@@ -62,7 +62,7 @@ from scribe.words.pages import described
 _DOTS = (
     "Dot 7 is under marked cells, dot 8 under those of the cursor. d takes both away."
 )
-_QUIET = "Now without the list, and without braille while you type. z brings them back."
+_QUIET = "Now without the list, and without braille while you type. z ends that."
 _PAGES_SAID = "Now n, N, / and * say the page and line to which they go. P ends that."
 _NO_PAGES_SAID = "Now n, N, / and * say no page and line."
 _NO_DOTS = "Braille ASCII has no dots 7 and 8: a shows the cells as Unicode characters."

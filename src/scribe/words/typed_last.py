@@ -13,7 +13,7 @@ from braildesk.desk.drafts import MOST_TYPED_LAST, Drafts, NotKept
 
 #: What is said where it is asked for: that there is none, or that it is typed anew.
 NOTHING = "Nothing that was typed last is kept for this book."
-BROUGHT = "All that is noted as typed in this book or at its path is here, kept or not."
+BROUGHT = "All that is noted as typed in this file or at its path is here, kept or not."
 #: What is noted of a key that may go elsewhere: what is typed there is no part of the word before it.
 PARTED = "\x1e"
 # what needs to stand between two texts only once, if anything stands before it
