@@ -107,7 +107,7 @@ def _end(desk: "Desk", screen: "Screen", book: Path, console: Console) -> Status
     except Lost as lost:
         if not screen.is_hung_up:
             console.say(lost.sentence, *screen.unseen)
-        return _failed(screen)
+        return Status.FAILED
     except Interrupted:
         # the program doesn't answer, and isn't waited for
         console.say(*screen.unseen)
@@ -120,19 +120,12 @@ def _end(desk: "Desk", screen: "Screen", book: Path, console: Console) -> Status
         is_said = not screen.unseen or screen.unseen[-1] in lines_said
         console.say(*desk.not_so_any_more, *lines_said)
         console.say(*(() if is_said else screen.unseen))
-        return _failed(screen)
+        return Status.FAILED
     tell_end(console, name_of(book), screen.state.version, desk.strayed)
     console.say(*screen.unseen)
     if screen.ended_by is not None:
         raise Interrupted(screen.ended_by, is_said=True)
     return Status.DONE
-
-
-def _failed(screen: "Screen") -> Status:
-    """The status after a session was lost, unless a signal told scribe to end at its terminal."""
-    if screen.ended_by is not None and not screen.is_hung_up:
-        raise Interrupted(screen.ended_by, is_said=True)
-    return Status.FAILED
 
 
 def _take_encoding(its: str) -> None:
