@@ -179,6 +179,19 @@ def test_a_mark_that_is_taken_back_beside_another_is_said_once(
     )
 
 
+def test_of_a_mark_in_hand_that_is_elsewhere_it_is_not_said_that_it_is_here(
+    moon: Path, sit: Sit
+) -> None:
+    sat = sit(moon)
+    sat.press("end", "m", *"who?", "enter", "home", "n", "r", "n")
+    # a new one is in the place of the first, with the cursor at the other
+    sat.press("u", "u")
+    assert sat.state.mark_in_hand and sat.state.mark_in_hand.id == 3
+    assert sat.state.message == (
+        "Taken back: mark 2 was put. The book keeps it, resolved."
+    )
+
+
 def test_a_mark_is_taken_back_by_resolving_it_and_that_by_a_new_one(
     moon: Path, sit: Sit
 ) -> None:

@@ -86,7 +86,9 @@ def with_mark_in_hand(state: State, before: State) -> State:
 
 def left_here(state: State) -> State:
     """The state after a mark was resolved: others that are still open here are said."""
-    count = sum(not mark.resolved for mark in state.marks_here)
+    # the one in hand may be elsewhere
+    here = filter(state.is_on, state.marks_here)
+    count = sum(not mark.resolved for mark in here)
     if not count:
         return state
     left = "1 open mark is" if count == 1 else f"{count} open marks are"
