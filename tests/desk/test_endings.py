@@ -326,6 +326,38 @@ def test_a_signal_that_comes_where_python_drops_exceptions_ends_scribe_too(
     assert done.returncode == -number
 
 
+WRAPPED = """\
+import os, signal, sys
+from scribe.cli.endings import ended
+
+class Field:
+    def __set_name__(self, owner, name):
+        os.kill(os.getpid(), signal.{name})
+
+def run():
+    class Thing:
+        field = Field()
+    return 0
+
+sys.exit(ended(run, lambda: False))
+"""
+
+
+@pytest.mark.parametrize("number", STOPPING)
+def test_a_signal_that_python_makes_a_fault_of_ends_scribe_as_any(
+    number: signal.Signals,
+) -> None:
+    done = subprocess.run(
+        [sys.executable, "-c", WRAPPED.format(name=number.name)],
+        env=environment(),
+        capture_output=True,
+        text=True,
+    )
+    by = "" if number is signal.SIGINT else f" by {number.name}"
+    assert done.stderr == f"Stopped{by}. No book was changed.\n"
+    assert done.returncode == -number
+
+
 #: Has it come there while the lines of a terminal are waited for, or just before that.
 DROPPED_AT_LINES = """\
 import os, select, signal, sys, weakref

@@ -86,6 +86,9 @@ def _status(
         for sentence in filter(None, (said, *lost_besides(failed))):
             say(sentence)
     except Exception as fault:
+        if isinstance(fault.__cause__, KeyboardInterrupt):
+            # Python makes a fault of a signal that comes while a class is made
+            raise fault.__cause__ from None
         kept = _kept_at(fault, may_change)
         try:
             said = of_fault(fault, kept)
