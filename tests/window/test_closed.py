@@ -990,3 +990,21 @@ def test_what_was_typed_elsewhere_before_the_book_is_open_again_is_set_aside_and
     waiting = drafts.waiting()
     assert waiting is not None and waiting.text == "It rose."
     desk.act("give_up")
+
+
+def test_a_window_that_is_told_to_end_once_its_book_is_gone_says_where_all_of_it_is(
+    moon: Path, at: Open
+) -> None:
+    window = at(moon)
+    window.focus("table", "Paragraphs")
+    moon.unlink()
+    window.press("s")
+    saved = moon.with_name(f"{moon.name}-saved-1")
+    # it is there only once it is said
+    window.says(f"is in the new file “{saved}”")
+    window.program.send_signal(signal.SIGTERM)
+    _, said = window.program.communicate(timeout=120)
+    assert window.program.returncode == -signal.SIGTERM
+    told = said.decode()
+    assert "What was reported as kept is in the book" not in told
+    assert str(saved) in "".join(told.split("\n"))

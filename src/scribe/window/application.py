@@ -159,9 +159,11 @@ class Application:
             cause = Interrupted(self._ended_by)
         self.waits = desk.waits_at_once()
         if cause is not None:
-            if self.waits:
-                kept = "" if isinstance(cause, Lost) else _KEPT
-                cause.add_note(f"{kept} {self.waits}".strip())
+            kept = (
+                "" if isinstance(cause, Lost) else self.loss or _KEPT * bool(self.waits)
+            )
+            if said := f"{kept} {self.waits}".strip():
+                cause.add_note(said)
             raise cause
 
     def _show(self) -> None:
