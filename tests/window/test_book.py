@@ -125,7 +125,7 @@ def test_a_mark_whose_words_are_gone_is_put_again_on_a_character(
     book.resolved(book.reading(book.contents().paragraphs[1]), 1)
     done = book.taken_back(lambda *_: None)
     assert done.said == (
-        "Taken back: mark 1 was resolved. It stays resolved, and a new mark is on “ ”."
+        "Taken back: mark 1 was resolved. It stays resolved, and a new mark is on “i”."
     )
     mark = book.session.marks_of(2)[-1]
     assert (mark.start, mark.stop, mark.resolved) == (4, 5, False)

@@ -270,6 +270,10 @@ def test_places_that_are_refused_are_said_and_stay(desk: Desk, given: Answers) -
     [
         (["sun", "x"], "“sun” isn't in the book."),
         (
+            ["MOON", "x"],
+            "“MOON” isn't in the book as typed. With other capitals it is there once. Nothing",
+        ),
+        (
             ["Moon", "Moon"],
             "The new words are the same as the old. Nothing was changed.",
         ),

@@ -176,7 +176,7 @@ class Changing:
             # what is noted of places that are all done is taken away
             left_open(session, desk.drafts)
             if not further.is_done:
-                raise Stop(nowhere(session, wanted, ""))
+                raise Stop(nowhere(session, wanted, "."))
             notes = (note for note, _ in further.notes)
             raise Stop(f"{none_left(wanted, notes)} {_NOTHING}")
 
