@@ -330,7 +330,7 @@ def test_the_print_has_a_text_that_is_brought_back_before_it_takes_the_focus(
         window.press("Ctrl+Shift+B")
         window.until("the focus", lambda: (FOCUS, "Print") in heard)
         window.until("the text", lambda: (INSERTED, "Print") in heard)
-        window.says("All that was typed last")
+        window.says("All that is noted as typed")
     of_print = [kind for kind, name in heard if name == "Print"]
     assert of_print == [INSERTED, FOCUS]
 
