@@ -340,11 +340,24 @@ class OpenFile:
                     os.fsync(written.fileno())
                     self._give_access(written)
                     saved = os.fstat(written.fileno())
-                if _version(made, program) < version:
+                self._copy_log(made)
+                found = _version(made, program)
+                if found < version or has_work(f"{made}-wal"):
                     raise Failed("The program did not write all of it to its file.")
                 return _put_beside(made, self.path, saved)
         except OSError as error:
             raise Failed(f"{of_failure(error)}.") from error
+
+    def _copy_log(self, made: Path) -> None:
+        """Copies the log beside a copy of the file, if a program that was stopped left work there.
+
+        Once it was emptied into the file it has no name.
+        """
+        noted = self._log_noted
+        has_own = self._was_lent or noted is not None and noted.last
+        if self._log is not None and has_own and os.fstat(self._log).st_nlink:
+            with create(Path(f"{made}-wal")) as written:
+                copy_bytes(self._log, written.fileno())
 
     def save_text(self, text: str) -> str:
         """Puts a text to a new path beside the file."""

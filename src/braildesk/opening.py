@@ -565,16 +565,18 @@ def _tables_in(database: sqlite3.Connection) -> dict[bytes, bool]:
 
     SQLite refuses a schema whose rows name another kind than their texts, but takes a virtual table
     for one. Its own list of all tables is not asked for: it goes through all views for that, which
-    has no end if each of them has another one twice.
+    has no end if each of them has another one twice. Nor are the columns of a view, for that reason.
     """
     database.text_factory = bytes
+    names = ", ".join(f"'{name.decode()}'" for name in _TABLES)
     rows = database.execute(
-        "SELECT lower(name), type = 'table' AND rootpage > 0 AND sql LIKE 'CREATE TABLE%'"
-        " AND NOT EXISTS (SELECT 1 FROM pragma_table_xinfo(s.name, 'main') WHERE hidden)"
+        "SELECT lower(name),"
+        " CASE WHEN type = 'table' AND rootpage > 0 AND sql LIKE 'CREATE TABLE%' THEN"
+        " NOT EXISTS (SELECT 1 FROM pragma_table_xinfo(s.name, 'main') WHERE hidden) END"
         " FROM main.sqlite_schema s"
-        " WHERE type IN ('table', 'view')"
+        f" WHERE type IN ('table', 'view') AND lower(name) IN ({names})"
     )
-    return {name: bool(keeps_rows) for name, keeps_rows in rows if name in _TABLES}
+    return {name: bool(keeps_rows) for name, keeps_rows in rows}
 
 
 def _has_long_value(

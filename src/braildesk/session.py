@@ -549,6 +549,9 @@ class Session(Asking):
             while isinstance(self._sent.pop(), Refused):
                 pass
         waiting = tuple(each for each in self._sent if isinstance(each, Command))
+        if not self._file.is_at_its_path and os.path.lexists(self._file.path):
+            # the other file that is there now isn't to be taken for the book
+            return self._displaced(f"{cause} ", waiting)
         kept = self._kept(waiting)
         self._lost = self._lost_as(kind, cause, kept, waiting)
         self._file.close()
@@ -565,15 +568,22 @@ class Session(Asking):
             cause, kept, self._acknowledged, self._answered, self._seen, waiting
         )
 
-    def _displaced(self) -> Lost:
-        """The exception of a session whose file isn't at its path any more, with all of it saved."""
+    def _displaced(
+        self, ended: str = "", waiting: tuple[Command[Any], ...] = ()
+    ) -> Lost:
+        """The exception of a session whose file isn't at its path any more, with all of it saved.
+
+        Its program may have ended before that by itself, with commands that weren't answered.
+        """
         self._is_closed = True
         self._pipe.drop()
         self._pipe.close()
-        cause = self._rescue.gone()
+        cause = f"{ended}{self._rescue.gone()}"
         saved, kept = self._rescue.all_saved(self._seen)
+        if saved is not None and waiting:
+            kept += " What was not reported as kept may be in it too."
         self._file.close()
-        self._lost = lost = self._lost_as(Displaced, cause, kept)
+        self._lost = lost = self._lost_as(Displaced, cause, kept, waiting)
         lost.saved = saved
         return lost
 

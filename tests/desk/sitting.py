@@ -5,7 +5,7 @@ from dataclasses import dataclass
 
 from scribe.screen.desk import Desk
 from scribe.screen.drawing import draw
-from scribe.screen.lines import HIGHLIGHTED
+from scribe.screen.lines import BOTH, HIGHLIGHTED
 from scribe.screen.state import State
 
 
@@ -35,7 +35,10 @@ class Sat:
         """What is highlighted, in its order."""
         lines = draw(self.state).lines
         return [
-            each.text for line in lines for each in line if each.look == HIGHLIGHTED
+            each.text
+            for line in lines
+            for each in line
+            if each.look in (BOTH, HIGHLIGHTED)
         ]
 
 

@@ -45,8 +45,28 @@ CASES: list[tuple[str, str, list[Mark], list[tuple[int, int, str]]]] = [
         on("abcd efgh i", "cd ef"),
         [(10, 1, "Y"), (2, 1, "X")],
     ),
-    # with what changes side by side with them
-    ("a men c d", "X mon c Y", on("a men c d", "men"), [(8, 1, "Y"), (0, 4, "X mo")]),
+    # apart from what changes side by side with them, where as many words come in
+    (
+        "a men c d",
+        "X mon c Y",
+        on("a men c d", "men"),
+        [(8, 1, "Y"), (3, 1, "o"), (0, 1, "X")],
+    ),
+    ("the sea", "an ocean", on("the sea", "sea"), [(4, 3, "ocean"), (0, 3, "an")]),
+    (
+        "The sea.",
+        "An ice!",
+        on("The sea.", "sea"),
+        [(7, 1, "!"), (4, 3, "ice"), (0, 3, "An")],
+    ),
+    ("the sea", "an icy sea", on("the sea", "the"), [(0, 3, "an icy")]),
+    # and otherwise with it
+    (
+        "a men c d",
+        "X Z mon c Y",
+        on("a men c d", "men"),
+        [(8, 1, "Y"), (0, 4, "X Z mo")],
+    ),
     # a mark on all that changes parts nothing
     ("a b c d e", "a X c Y e", on("a b c d e", "a b c d e"), [(2, 5, "X c Y")]),
     ("a b c d e", "a X c Y e", on("a b c d e", "b c d"), [(2, 5, "X c Y")]),
@@ -92,7 +112,12 @@ CASES: list[tuple[str, str, list[Mark], list[tuple[int, int, str]]]] = [
         on("a b \u0307c", "b"),
         [(5, 1, "Y"), (0, 1, "X")],
     ),
-    ("a b c", "X b\u0307 Y", on("a b c", "b"), [(0, 5, "X b\u0307 Y")]),
+    (
+        "a b c",
+        "X b\u0307 Y",
+        on("a b c", "b"),
+        [(4, 1, "Y"), (2, 1, "b\u0307"), (0, 1, "X")],
+    ),
     # one change is the smallest correction, whatever mark is there
     ("a b c", "a X c", on("a b c", "b"), [(2, 1, "X")]),
     ("a b c", "a b c", on("a b c", "b"), []),

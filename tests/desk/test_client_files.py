@@ -3033,6 +3033,29 @@ def test_to_look_at_a_book_of_ones_own_no_leave_to_write_is_taken(
     assert found == [front + said] * 3
 
 
+def test_of_a_folder_of_ones_own_above_that_of_a_book_nobody_else_is_asked(
+    book: Path, open_folder: Path
+) -> None:
+    folder = open_folder / "a folder"
+    (folder / "books").mkdir(parents=True)
+    path = Path(shutil.copyfile(book, folder / "books" / "book"))
+    if os.getuid() == 0:
+        os.chown(folder, 65534, 65534)
+    folder.chmod(0o600)
+    to = open_folder / "copied"
+    looked = as_nobody(LOOKING, path, to).splitlines()
+    (opened, *_) = as_nobody(ATTEMPTS, path, to).splitlines()
+    made = as_nobody(OF_NEW, path.with_name("new")).rstrip()
+    folder.chmod(0o755)
+    said = (
+        f"Nothing was changed. The folder “{folder}” is your own, and its permissions don't let you"
+        f" enter it. This lets you: chmod u+x -- '{folder}'"
+    )
+    assert looked == [f"You aren't permitted to read “{path}”. {said}"] * 3
+    assert opened == f"You aren't permitted to open “{path}”. {said}"
+    assert made == f"You aren't permitted to open “{path.with_name('new')}”. {said}"
+
+
 def test_a_table_that_may_not_be_read_is_to_be_read_alone(open_folder: Path) -> None:
     path = open_folder / "own.utb"
     path.write_text("space \\s 0\n")

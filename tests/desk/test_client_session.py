@@ -785,6 +785,48 @@ def test_of_a_book_that_is_gone_as_its_program_ends_it_is_said_where_it_was(
     )
 
 
+@pytest.mark.parametrize("kept", [0, 1, 300])
+def test_a_book_is_saved_that_was_replaced_as_its_program_ended(
+    book: Path, kept: int
+) -> None:
+    with pytest.raises(Displaced) as caught, Session(book) as session:
+        texts = [f"Line {number}." for number in range(kept)]
+        list(session.each(requests.Type("end", "en", text) for text in texts))
+        replaced(book)
+        os.kill(session.pid, signal.SIGKILL)
+        session.version()
+    lost, saved = caught.value, f"{book}-saved-1"
+    assert (lost.version, lost.unanswered, lost.saved) == (kept + 1, (), saved)
+    assert lost.sentence == (
+        f"The session was ended by signal 9. The file of the book is no longer at “{book}”: another"
+        " one was put there while it was open. All of the book, with what was kept last, is in the"
+        f" new file “{saved}”. Go on with that one, or look first what is at the old path by now."
+    )
+    assert not Path(f"{saved}-wal").exists()
+    with Session(saved) as session:
+        assert [session.print_of(each.id) for each in session.paragraphs()] == texts
+
+
+def test_of_a_command_that_was_not_answered_as_a_book_was_replaced_it_is_said_so(
+    book: Path, monkeypatch: pytest.MonkeyPatch
+) -> None:
+    with monkeypatch.context() as patched:
+        for name, value in standing_in(2, KEPT, KILL_PROGRAM).items():
+            patched.setenv(name, value)
+        session = Session(book)
+    session.add_paragraph("end", "en", "One.")
+    replaced(book)
+    with pytest.raises(Displaced) as caught:
+        session.add_paragraph("end", "en", "Two.")
+    session.close()
+    lost = caught.value
+    assert lost.unanswered == (requests.Type("end", "en", "Two."),)
+    assert lost.kept.endswith(" What was not reported as kept may be in it too.")
+    assert lost.saved is not None
+    with Session(lost.saved) as session:
+        assert [session.print_of(number) for number in (1, 2)] == ["One.", "Two."]
+
+
 def test_a_book_is_saved_also_where_nothing_is_said_of_a_file_that_is_gone(
     book: Path, monkeypatch: pytest.MonkeyPatch
 ) -> None:

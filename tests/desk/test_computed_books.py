@@ -106,6 +106,17 @@ def test_views_that_take_for_ever_beside_a_book_are_not_looked_at(book: Path) ->
     assert ran.status == 0
 
 
+@pytest.mark.parametrize(
+    "statements",
+    [*DONE.values(), "DROP TABLE mark; CREATE VIEW mark AS SELECT x FROM v40"],
+)
+def test_a_file_whose_rows_are_computed_is_not_opened_beside_such_views_either(
+    book: Path, statements: str
+) -> None:
+    altered(book, TWICE + statements)
+    assert fault_in(book, True) is Why.COMPUTED
+
+
 #: How many bytes are more than any value of a book has, by its column.
 TOO_LONG = {
     "tab.body": 80_040_004,

@@ -1169,6 +1169,22 @@ def test_what_is_typed_on_at_a_lost_book_replaces_nothing_that_others_type_where
     assert set(other.given_up()) == {first, theirs, NOTE, next_of_theirs}
 
 
+def test_what_is_typed_on_at_a_lost_book_is_found_where_its_saved_file_was_moved_on(
+    moon: Path,
+) -> None:
+    own, saved = Drafts(moon), moon.with_name("saved.braildesk")
+    shutil.copyfile(moon, saved)
+    own.copy_to(saved)
+    there = saved.rename(moon.with_name("moved.braildesk"))
+    new = Draft(Aim.AFTER, 1, "en", "", "It rose.")
+    own.save(new)
+    own.copy_to(saved)
+    drafts = Drafts(there)
+    drafts.take_in()
+    assert drafts.waiting() == new
+    assert Drafts(saved).waiting() is None
+
+
 def test_texts_of_a_lost_book_are_kept_where_one_that_waits_is_the_first_that_is_given_up(
     moon: Path,
 ) -> None:
@@ -1391,6 +1407,40 @@ def test_what_was_left_for_later_waits_on_once_another_session_ended(
     here.keep(None)
     assert drafts.waiting() == (None if is_taken_up else first)
     assert [each.text for each in drafts.given_up()] == ["Text 2."]
+
+
+def test_a_text_of_another_session_is_given_up_where_one_of_this_is_kept_in_its_place(
+    store: Path, tmp_path: Path
+) -> None:
+    book = tmp_path / "book.braildesk"
+    book.write_bytes(b"a book")
+    drafts = Drafts(book)
+    ours, more, theirs = (
+        Draft(Aim.AFTER, 1, "en", "", text) for text in ("Ours", "Ours, too", "Theirs")
+    )
+    here, other = Unsent(drafts), Unsent(drafts)
+    # as where the session of this one was lost, and more is typed in both
+    here.keep(ours)
+    other.keep(theirs)
+    assert (drafts.waiting(), drafts.given_up()) == (theirs, (ours,))
+    here.keep(more)
+    assert (drafts.waiting(), drafts.given_up()) == (more, (theirs, ours))
+    # the book has it, and not what waits in its place
+    other.keep(None)
+    assert (drafts.waiting(), drafts.given_up()) == (None, (more, theirs, ours))
+
+
+def test_no_text_of_this_session_is_given_up_as_one_of_another(
+    store: Path, tmp_path: Path
+) -> None:
+    book = tmp_path / "book.braildesk"
+    book.write_bytes(b"a book")
+    drafts = Drafts(book)
+    here = Unsent(drafts)
+    # what came in bytes that aren't UTF-8 has no character where it is kept
+    for text in ("M", "M\udcff", "M\udcffn", ""):
+        here.keep(Draft(Aim.AFTER, 1, "en", "", text) if text else None)
+    assert (drafts.waiting(), drafts.given_up()) == (None, ())
 
 
 def test_what_waits_is_kept_again_at_the_end_where_its_folder_was_taken_away(

@@ -265,7 +265,7 @@ def test_the_limit_on_the_size_of_files_is_named(moon: Path, name: str) -> None:
         3,
         "",
         "braildesk was ended by the limit on the size of files (ulimit -f) before it was done. Set a"
-        " higher one, and try again.\n",
+        f" higher one, and try again.{' Nothing was exported.' if name == 'export' else ''}\n",
     )
     assert braildesk.check(moon) == 7
 

@@ -102,6 +102,11 @@ def test_letters_that_are_written_otherwise_are_not_said_to_be_capitals(
         ("Ꭰ", "ꭰ", ["CAPITALS"]),
         ("ᾈ", "ᾀ", ["CAPITALS"]),
         ("'n", "ŉ", ["LETTERS", "APOSTROPHE"]),
+        # quotation marks that stand single count as apostrophes
+        ("'n'", "‹n›", ["APOSTROPHE"]),
+        ("a b c d", "a\u1680b\u2000c\u2001d", ["BLANK"]),
+        ("a b c d", "a\u2004b\u2005c\u2006d", ["BLANK"]),
+        ("a b c d e", "a\u2008b\u200ac\u205fd\u3000e", ["BLANK"]),
     ],
 )
 def test_texts_that_are_alike_differ_by_something_that_is_named(

@@ -415,6 +415,11 @@ def test_from_looks_at_the_paragraph_after_which_the_text_goes(book: Path) -> No
     assert put(book, TEXT, "--from", "4", "--after", "front").status == 2
     assert put(book, TEXT, "--from", "4", "--after", "1").status == 0
     assert prints(book) == ["The moon is far away.", "Tides", "Twice a day.", "The end"]
+    shown = " ".join(scribe("import", "--help", folder=book.parent).shown.split())
+    assert (
+        "--from LINE begin at this line, or this paragraph of a document; the paragraph before it has"
+        " to be in the book already, right before where the text goes"
+    ) in shown
 
 
 def test_from_within_a_paragraph_or_past_the_last_is_refused(book: Path) -> None:

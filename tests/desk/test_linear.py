@@ -497,7 +497,7 @@ class OfOneParagraph:
                     yield "\u2800".join("\u2801" * self._words)
                 case requests.Marks():
                     yield self._marks
-                case requests.Where(place=place):
+                case requests.Where(place=place) | requests.Whence(cell=place):
                     yield place
 
 

@@ -10,6 +10,7 @@ from tool import Ran, scribe
 
 from braildesk import Session, new_book
 from braildesk.desk.layout import PageSize, parted, volume
+from braildesk.desk.page_places import PageMap, printed
 import braildesk
 
 SIZE = ("--width", "24", "--lines", "8")
@@ -125,14 +126,68 @@ def test_words_and_marks_are_found_with_their_pages(moon: Path) -> None:
     )
 
 
-def test_what_no_page_can_have_is_on_none(moon: Path) -> None:
+def test_why_a_volume_is_not_laid_out_is_said_once_and_only_of_what_stands_in_it(
+    moon: Path,
+) -> None:
     with Session(moon) as session:
         session.put_table("dots", b"space \\s 0\nletter a 7\n")
         session.add_paragraph("front", "dots", "a a")
-    ran = scribe("find", moon, "men", "--pages", "--width", "200", folder=moon.parent)
-    assert ran.shown == (
-        "Paragraph 1, on no page, character 21: On 20 July 1969 two [men] stood on the moon.\n"
+        session.add_mark(1, 20, 3, "who?")
+        session.add_mark(7, 0, 1, "")
+        session.add_mark(6, 0, 1, "")
+    why = (
+        "Cell 1 of paragraph 7 has dot 7 or 8, which pages for embossers can't have, so volume 1"
+        " can't be exported. Correct the table of that paragraph.\n"
     )
+    words = ("--pages", "--width", "200")
+    ran = scribe("find", moon, "men", *words, folder=moon.parent)
+    assert ran == Ran(
+        0,
+        "Paragraph 1, volume 1, not laid out, character 21: On 20 July 1969 two [men] stood on the"
+        " moon.\n",
+        f"Found “men” once.\n{why}",
+    )
+    ran = scribe("find", moon, "--braille", "TIDES", *words, folder=moon.parent)
+    assert ran.shown.startswith("Paragraph 4, volume 2, page 1, line 1, cell 7: ")
+    assert ran.said == "Found “TIDES” once.\n"
+    ran = scribe("find", moon, "--braille", "JULY", *words, folder=moon.parent)
+    assert ran.shown.startswith("Paragraph 1, volume 1, not laid out, cell ")
+    assert ran.said == f"Found “JULY” once.\n{why}"
+    ran = scribe("marks", moon, *words, folder=moon.parent)
+    assert ran == Ran(
+        0,
+        "Mark 2, open, volume 1, not laid out, paragraph 7, on “a”.\n"
+        "Mark 1, open, volume 1, not laid out, paragraph 1, on “two”: who?\n"
+        "Mark 3, open, on no page, paragraph 6, on “ ”.\n",
+        f"The book has 3 open marks.\n{why}",
+    )
+    given = "find Tides --pages\nmarks 7 --pages\n"
+    ran = scribe("talk", moon, "--width", "200", folder=moon.parent, given=given)
+    assert ran.shown.splitlines()[1:3] == [
+        "Paragraph 4, volume 2, page 1, line 1, character 5: The [Tides]",
+        "Mark 2, open, volume 1, not laid out, paragraph 7, on “a”.",
+    ]
+    assert ran.said == f"Found “Tides” once.\nParagraph 7 has 1 open mark.\n{why}"
+
+
+def test_where_cells_can_not_go_on_pages_nothing_is_said_to_be_shown(
+    moon: Path,
+) -> None:
+    with Session(moon) as session:
+        session.put_table("dots", b"space \\s 0\nletter a 7\n")
+        session.add_paragraph("end", "dots", "a a")
+    refused = Ran(
+        2,
+        "",
+        "Cell 1 of paragraph 7 has dot 7 or 8, which pages for embossers can't have. Nothing is"
+        " shown. Correct the table of that paragraph.\n",
+    )
+    assert pages(moon) == pages(moon, "2") == refused
+    assert pages(moon, "--page", "1") == pages(moon, "--paragraph", "4") == refused
+    assert pages(moon, "1").status == 0
+    given = "pages 2\n"
+    ran = scribe("talk", moon, "--width", "200", folder=moon.parent, given=given)
+    assert ran.said == refused.said
 
 
 def test_a_talk_says_what_stands_on_a_page(moon: Path) -> None:
@@ -273,6 +328,77 @@ def test_volumes_are_laid_out_as_export_writes_them(
         assert each.layout.brf() == written
     with pytest.raises(braildesk.Refused):
         braildesk.export(path, len(laid) + 1, width, lines)
+
+
+#: Letters whose cells are those of Braille ASCII, and rules for groups of them with a blank.
+ACROSS = (
+    b"space \\s 0\nletter a 1\nletter b 12\nletter c 14\nletter f 124\n"
+    b"always a\\sb 1-0-12\nalways c\\sf\\sa 14-0-124-0-1\nalways \\sc 0-14\n"
+    b"always b\\s\\sb 12-0-12\nalways bf\\sca 12-124-0-14-1\n"
+)
+PARTED = st.lists(
+    st.tuples(st.sampled_from([" ", "  "]), st.text("abcf", min_size=1, max_size=5)),
+    max_size=20,
+).map(lambda its: "".join(map("".join, its))[1:])
+
+
+@settings(
+    max_examples=60,
+    deadline=None,
+    suppress_health_check=[HealthCheck.function_scoped_fixture],
+)
+@given(st.lists(PARTED, min_size=1, max_size=3), st.integers(10, 24), st.booleans())
+def test_each_word_stands_on_the_line_on_which_its_own_cells_are_embossed(
+    tmp_path: Path, texts: list[str], width: int, are_headings: bool
+) -> None:
+    path, page_size = tmp_path / "random.braildesk", PageSize(width, 5)
+    path.unlink(missing_ok=True)
+    new_book(path)
+    with Session(path) as session:
+        session.put_table("across", ACROSS)
+        numbers = [session.add_paragraph("end", "across", each).id for each in texts]
+        for number in numbers if are_headings else []:
+            session.set_style(number, "heading")
+        its = volume(session, 1, parted(session.paragraphs())[0], page_size)
+        rows = list(printed(session, its, its.layout.rows))
+        places = PageMap(session, page_size)
+        for number, text in zip(numbers, texts):
+            its_rows = [each for each in rows if each.row.paragraph == number]
+            words = [each.words.upper().split() for each in its_rows]
+            assert words == [each.row.shown.split() for each in its_rows]
+            assert sum(words, []) == text.upper().split()
+            for each in its_rows:
+                for place in range(*each.place):
+                    there = places.of_character(number, place, text)
+                    assert there is not None
+                    assert (there.page, there.line) == (each.row.page, each.row.line)
+
+
+@pytest.mark.parametrize(
+    "rule, width, shown, lines",
+    [
+        # the cells have no blank, or fewer than the print, or more, or one at their front
+        (b"a\\sc 14", 10, ["f f f", "ba cb"], [2, 2]),
+        (b"a\\sc\\sb 14-0-14-14-14", 10, ["f f f ba", "c b"], [1, 2]),
+        (b"a\\sc 14-0-14-0-14-14-14", 10, ["f f f ba", "cb"], [1, 2]),
+        (b"a\\sc 14-0-14-0-14-14-14", 12, ["f f f ba c", "cb"], [1, 1]),
+        (b"ba 0-14-14-14", 10, ["f f f", "ba cb"], [2, 2]),
+    ],
+)
+def test_a_word_is_shown_on_its_line_where_its_cells_are_parted_otherwise_than_the_print(
+    empty_book: Path, rule: bytes, width: int, shown: list[str], lines: list[int]
+) -> None:
+    text = "f f f ba c b" if rule.count(b"\\s") > 1 else "f f f ba cb"
+    page_size = PageSize(width, 5)
+    with Session(empty_book) as session:
+        session.put_table("across", ACROSS + b"always " + rule + b"\n")
+        number = session.add_paragraph("end", "across", text).id
+        its = volume(session, 1, session.paragraphs(), page_size)
+        rows = list(printed(session, its, its.layout.rows))
+        assert [each.words for each in rows] == shown
+        places = PageMap(session, page_size)
+        found = [places.of_character(number, place, text) for place in (7, 9)]
+    assert [each and each.line for each in found] == lines
 
 
 def test_pages_of_20_000_paragraphs_are_found(big_book: Path) -> None:

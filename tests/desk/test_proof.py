@@ -11,10 +11,11 @@ from xml.etree import ElementTree
 
 import pytest
 
-from braildesk import Session, Style, find
+from braildesk import Session, Style, beginning, find
 from braildesk.desk.layout import PageSize
 from braildesk.desk.page_places import PageMap
 from braildesk.desk.proof import ProofLine, ProofPage, ProofWord, proof_pages
+from braildesk.openfile import OpenFile
 from braildesk.text.cells import EMPTY_CELL
 
 from scribe.cli import run_words
@@ -450,3 +451,28 @@ def test_a_proof_is_its_owners_alone_where_the_program_has_another_book_open(
     )
     assert ran == Ran(0, "moon.html: 1 page.\n", "")
     assert S_IMODE(moon.with_name("moon.html").stat().st_mode) == mode
+
+
+@pytest.mark.parametrize(
+    "words, made",
+    [(("proof",), "made.html"), (("import", "text.md", "--report"), "made.txt")],
+)
+def test_what_is_made_of_a_book_that_is_not_held_beside_the_program_is_its_owners_alone(
+    moon: Path, monkeypatch: pytest.MonkeyPatch, words: tuple[str, ...], made: str
+) -> None:
+    moon.chmod(0o666)
+    monkeypatch.chdir(moon.parent)
+    Path("text.md").write_text("One *two*.\n")
+
+    def held(path: str) -> OpenFile:
+        # others put a link in the place of the book in this moment, and the book in that of the link
+        os.symlink(moon.rename(f"{path}-kept"), path)
+        file = OpenFile(path)
+        os.replace(f"{path}-kept", path)
+        return file
+
+    monkeypatch.setattr(beginning, "OpenFile", held)
+    command, *more = words
+    asked = [command, moon.name, *more, made]
+    assert run_words(asked, Console(BytesIO(), StringIO(), StringIO())) is Status.DONE
+    assert S_IMODE(os.stat(made).st_mode) == 0o600

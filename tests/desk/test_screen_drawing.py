@@ -16,7 +16,7 @@ from scribe.screen.desk import with_preview
 from scribe.screen.drawing import Drawing, draw
 from scribe.screen.field import Field, Purpose
 from scribe.screen.keys import step
-from scribe.screen.lines import HIGHLIGHTED, MARKED, rows
+from scribe.screen.lines import BOTH, HIGHLIGHTED, MARKED, rows
 from scribe.screen.question_rows import moved
 from scribe.screen.state import (
     Opening,
@@ -110,7 +110,8 @@ def test_each_line_is_what_has_to_be_there_at_each_size(size: tuple[int, int]) -
 
 def test_the_character_of_the_cursor_its_cells_and_the_marked_words_are_lit() -> None:
     drawn = draw(STATE)
-    assert looks(drawn, HIGHLIGHTED) == ["o", "⠕"]
+    assert looks(drawn, HIGHLIGHTED) == []
+    assert looks(drawn, BOTH) == ["o", "⠕"]
     assert looks(drawn, MARKED) == ["m", "on", "⠍", "⠕⠝"]
     assert drawn.lines[8][2].text == "o" and drawn.cursor == (8, 5)
 
@@ -165,12 +166,21 @@ def test_dots_7_and_8_say_what_is_marked_and_where_the_cursor_is() -> None:
     assert draw(replace(dotted, is_ascii=True)).texts()[9] == ",THE MOON IS FAR AWAY4"
 
 
+def test_of_a_struck_paragraph_the_keys_are_named_that_do_something_there() -> None:
+    state = replace(STATE, chosen=1, size=Size(100, 24), reading=None)
+    assert draw(state).texts()[-1] == (
+        "? keys  q ends  s restores  o new  u undo  Tab cells  n next mark  / find  x export"
+    )
+    choosing = replace(state, pane=Pane.CELLS, anchor=0, place=0)
+    assert draw(choosing).texts()[-1] == "Left, Right choose more  Space gives them up"
+
+
 def test_chosen_cells_are_lit_and_counted() -> None:
     highlighted = Highlighted(Span(7, 8), Span(8, 9))
     drawn = draw(
         replace(STATE, pane=Pane.CELLS, place=8, anchor=5, highlighted=highlighted)
     )
-    assert looks(drawn, HIGHLIGHTED) == ["n", "⠍⠕⠕⠝"]
+    assert looks(drawn, BOTH) == ["n", "⠍⠕⠕⠝"]
     line, place = drawn.cursor
     assert drawn.texts()[line] == CELLS
     assert drawn.texts()[line][place] == "⠝"

@@ -481,6 +481,11 @@ def test_space_begins_and_ends_a_choice_of_cells() -> None:
     state = step(step(state, "right").state, "right").state
     assert state.chosen_cells == Span(6, 9)
     assert step(state, " ").state.anchor is None
+    # as everything else that was begun, Escape ends it
+    left = step(state, "escape").state
+    assert left == replace(state, anchor=None)
+    said = "That key does nothing here. ? shows the keys."
+    assert step(left, "escape").state == left.saying(said)
 
 
 def test_pasted_lines_of_a_new_paragraph_are_asked_about() -> None:

@@ -8,6 +8,7 @@ import pytest
 import braildesk
 from braildesk import Session
 from braildesk.desk.layout import PageSize
+from braildesk.desk.proof import proof_pages
 
 from scribe.screen.drawing import draw
 from scribe.screen.state import Size
@@ -195,6 +196,36 @@ def test_each_line_of_each_page_is_gone_to(
             sat.press("escape")
 
 
+def test_a_word_made_as_one_with_the_end_of_the_word_before_has_its_own_line(
+    empty_book: Path, sit: Sit
+) -> None:
+    table = b"space \\s 0\nletter a 1\nletter b 12\nletter c 14\nalways a\\sb 1-0-12\n"
+    with Session(empty_book) as session:
+        session.put_table("across", table)
+        session.add_paragraph("end", "across", "a a cc bc c")
+        session.add_mark(1, 7, 2, "so?")
+        # now the mark begins in the middle of what is made as one
+        session.correct(1, 6, 0, "a")
+        (page,) = proof_pages(session, PageSize(10, 5))
+    assert [len(line.marks) for line in page.lines] == [0, 1]
+    sat = sit(empty_book)
+    sat.press("w", *["backspace"] * 5, *"10 5", "enter", "g", *"page 1 line 2", "enter")
+    assert (sat.state.chosen, sat.state.place) == (0, 8)
+    sat.press("p")
+    assert sat.state.pages and sat.state.pages.lines[:2] == ("⠀⠀⠁⠀⠁⠀⠉⠉⠁", "⠃⠉⠀⠉")
+    assert sat.state.pages.title.endswith(
+        "character 9: volume 1, page 1, line 2, of 5 lines of 10 cells."
+    )
+    sat.press("escape", "M")
+    listed = "Mark 1, open, page 1 line 2, paragraph 1, on “bc”: so?"
+    assert sat.state.pages and sat.state.pages.lines == (listed,)
+    sat.press("escape", "P", "c-home", "/", *"bc", "enter")
+    assert sat.state.message == "Page 1 line 2."
+    # a cell stands where it does
+    sat.press("tab", "left", "p")
+    assert sat.state.pages and "page 1, line 1, of" in sat.state.pages.title
+
+
 def test_what_is_no_page_is_said_and_words_are_found(tides: Path, sit: Sit) -> None:
     sat = sit(tides)
     for asked, said in {
@@ -251,8 +282,20 @@ def test_where_the_cells_can_not_go_on_pages_the_marks_are_listed_without_them(
         session.add_mark(1, 0, 1, "why?")
     sat = sit(empty_book)
     sat.press("M")
-    assert sat.state.pages and sat.state.pages.lines == (
-        "Mark 1, open, on no page, paragraph 1, on “a”: why?",
+    why = (
+        "Cell 2 of paragraph 1 has dot 7 or 8, which pages for embossers can't have, so volume 1"
+        " can't be exported. Correct the table of that paragraph."
     )
+    assert sat.state.pages and sat.state.pages.lines == (
+        "Mark 1, open, not laid out, paragraph 1, on “a”: why?",
+    )
+    assert sat.state.pages.title == f"1 open mark. {why}"
     sat.press("escape", "g", *"page 1", "enter")
     assert sat.state.message.startswith("Cell 2 of paragraph 1 has dot 7 or 8")
+    # a volume in which nothing is listed isn't spoken of
+    sat.press("o", "a", "enter", "escape", "v", "b", "H")
+    assert sat.state.pages and sat.state.pages.title == "1 heading."
+    assert sat.state.pages.lines == ("a, volume 2, page 1 line 1, paragraph 2",)
+    sat.press("escape", "up", "b", "H")
+    assert sat.state.pages and sat.state.pages.title == f"2 headings. {why}"
+    assert sat.state.pages.lines[0] == "ab, volume 1, not laid out, paragraph 1"

@@ -300,7 +300,7 @@ def test_marks_that_are_touched_are_all_named_where_one_is_elsewhere_than_the_cu
     sat = sit(moon)
     sat.press("n", "enter", *["delete"] * 7, *"sun was", "home", "enter")
     assert [sat.lines[-5], sat.lines[-2]] == [
-        "Mark 1, open, touched, on “sun wa”: spelled so?",
+        "Mark 1, open, touched, on “sun”: spelled so?",
         "This touched the marks 1 and 2.",
     ]
 

@@ -611,7 +611,59 @@ def test_an_earlier_copy_that_is_there_after_a_session_ended_has_nothing_kept(
     once_free(moon).close()
     other.rename(moon)
     sat.state = sat.desk.lost(sat.state)
-    assert "it is at version 7" in sat.state.message
+    assert sat.state.is_lost
+    sat.press("enter")
+    assert sat.state.message.startswith("The file that is at the path now is open.")
+    assert sat.lines[0].endswith("version 7, table en, nothing kept yet")
+    with Session(f"{moon}-saved-1") as session:
+        assert session.paragraphs()[0].struck
+
+
+@pytest.mark.parametrize("is_kept", [False, True])
+def test_another_book_that_is_there_as_a_session_ends_is_not_taken_for_this_one(
+    moon: Path, sit: Sit, is_kept: bool
+) -> None:
+    other = another(moon, 2)
+    sat = sit(moon)
+    sat.press(*("s" * is_kept), "o")
+    sat.write("Es war")
+    sat.state = sat.desk.save_draft(sat.state)
+    other.rename(moon)
+    killed(sat)
+    saved = Path(f"{moon}-saved-1")
+    assert sat.state.is_lost and sat.state.pages
+    assert sat.state.pages.lines == (
+        f"The session was ended by signal 9. The file of the book is no longer at “{moon}”: another"
+        " one was put there while it was open. All of the book, with what was kept last, is in the"
+        f" new file “{saved}”. Go on with that one, or look first what is at the old path by now.",
+        "This was typed, and was not reported as kept:",
+        "Es war",
+        "It is kept, and is offered when that file is opened. Until then it is in"
+        f" {sat.desk.drafts.place}.",
+    )
+    again = sit(saved)
+    again.press("y", "enter")
+    assert again.state.book[0].struck is is_kept
+    assert prints(again)[1] == "Es war"
+    # it goes with the book that is gone
+    Path(f"{moon}-wal").unlink(missing_ok=True)
+    with Session(moon) as session:
+        assert (session.last_version, len(session.paragraphs())) == (9, 3)
+
+
+def test_another_book_that_came_after_a_session_ended_is_not_said_to_be_this_one(
+    moon: Path, sit: Sit
+) -> None:
+    other = another(moon, 0)
+    sat = sit(moon)
+    sat.press("s")
+    moon.rename(moon.with_name("away.braildesk"))
+    killed(sat)
+    assert sat.state.is_lost
+    moon.with_name("moon.braildesk-wal").unlink()
+    other.rename(moon)
+    sat.press("enter")
+    assert sat.state.message.startswith("The file that is at the path now is open.")
     assert sat.lines[0].endswith("version 7, table en, nothing kept yet")
 
 
@@ -970,6 +1022,25 @@ def test_lines_that_a_book_lacks_that_is_gone_are_offered_where_it_is(
     assert asked and "isn't in the book: “It set.”." in asked.sentence
     again.press("y", "enter")
     assert prints(again)[1:3] == ["It rose.", "It set."]
+
+
+@pytest.mark.parametrize("is_kept", [True, False])
+def test_of_a_text_that_waits_it_is_said_which_paragraph_before_the_newest_reads_so(
+    moon: Path, sit: Sit, is_kept: bool
+) -> None:
+    draft = Draft(Aim.AFTER, 1, "en", "", "Es war", version=7)
+    Drafts(moon).save(draft)
+    with Session(moon) as session:
+        # scribe was killed as it was kept, and others went on
+        session.add_paragraph(1, "en", "Es war" if is_kept else "Es ist")
+        session.add_paragraph("end", "en", "Noon.")
+    question = sit(moon).state.question
+    became = "was typed and isn't in the book"
+    if is_kept:
+        became = "was typed, and paragraph 4 reads the same"
+    assert question is not None and question.sentence == (
+        f"A text of a new paragraph {became}: “Es war”. Shall it be typed further?"
+    )
 
 
 def typed_elsewhere(moon: Path) -> Drafts:

@@ -99,6 +99,25 @@ def test_the_cursor_is_where_a_correction_was_taken_back(moon: Path, sit: Sit) -
         assert there in sat.lines
 
 
+def test_the_cursor_is_where_an_edit_of_several_corrections_was_taken_back(
+    moon: Path, sit: Sit
+) -> None:
+    sat = sit(moon)
+    for pane, there in (
+        ("", "“ ” ⠀, character 4, cell 5"),
+        ("tab", "⠀ “ ”, cell 5, character 4"),
+    ):
+        version = sat.state.version
+        sat.press("c-home", "enter", "home")
+        # on both sides of a mark, which takes two corrections
+        sat.press(*["right"] * 3, "n", "end", "backspace", "!", "enter", "c-end")
+        sat.press(*pane.split(), "u")
+        sat.state = sat.desk.away(sat.state, lambda _: None)
+        assert sat.state.version == version + 4
+        assert (sat.state.chosen, sat.lines[8]) == (0, "The moon is far away.")
+        assert there in sat.lines
+
+
 def test_a_typed_paragraph_is_taken_back_by_striking_it(moon: Path, sit: Sit) -> None:
     sat = sit(moon)
     sat.press("o", *"It rose.", "enter", "escape", "c-home", "u")

@@ -178,6 +178,89 @@ def test_an_export_that_is_told_to_end_while_it_writes_says_which_files_are_new(
     assert sorted(folder.iterdir()) == files
 
 
+def test_an_export_that_is_told_to_end_says_which_file_of_changed_pages_is_new(
+    volumes: Path, monkeypatch: pytest.MonkeyPatch
+) -> None:
+    calls, replace = 0, os.replace
+
+    def replaced(one: str, other: str, **folders: int) -> None:
+        nonlocal calls
+        calls += 1
+        if calls == 4:
+            raise Interrupted(signal.SIGTERM)
+        replace(one, other, **folders)
+
+    monkeypatch.setattr(os, "replace", replaced)
+    said, folder = StringIO(), volumes.with_name("pages")
+    job = Job(volumes, folder, PageSize(), wait=0, has_changed_pages=True)
+    with pytest.raises(Interrupted):
+        export_in_words(job, Console(BytesIO(), StringIO(), said))
+    assert said.getvalue() == (
+        "Stopped by SIGTERM. Volume 1 is new. Volumes 2 and 3 are as before."
+        f" {folder / 'moon-2-changed.brf'} is new, with the pages that change in it.\n"
+    )
+    assert (folder / "moon-2-changed.brf").read_bytes() != b"older"
+    assert (folder / "moon-2.brf").read_bytes() == b"older"
+
+
+@pytest.mark.parametrize(
+    "action, words",
+    [("check", ()), ("export", ()), ("export", ("--page", "1", "--volume", "2"))],
+)
+def test_an_export_whose_program_is_killed_says_that_nothing_was_exported(
+    volumes: Path, action: str, words: tuple[str, ...]
+) -> None:
+    folder = volumes.parent
+    killed = folder / "killed"
+    killed.write_text(
+        f'#!/bin/sh\nif [ "$1" = {action} ]; then kill -KILL $$; fi\n'
+        f"exec '{braildesk.find()}' \"$@\"\n"
+    )
+    killed.chmod(0o755)
+    settings = {"BRAILDESK": str(killed)}
+    ran = run(settings, folder, "export", str(volumes), "pages", *words)
+    said = "braildesk was ended by signal 9 before it was done. Nothing was exported.\n"
+    assert ran == Ran(3, "", said)
+    files = [path.read_bytes() for path in (folder / "pages").iterdir()]
+    assert files == [b"older"] * 3
+
+
+@pytest.mark.parametrize(
+    "is_there, is_renamed, told",
+    [
+        (False, False, "Nothing was made."),
+        (False, True, "{} is new."),
+        (True, False, "{} is as before."),
+        (True, True, "{} is new."),
+    ],
+)
+def test_an_export_of_single_pages_that_is_told_to_end_says_whether_they_are_there(
+    volumes: Path,
+    monkeypatch: pytest.MonkeyPatch,
+    is_there: bool,
+    is_renamed: bool,
+    told: str,
+) -> None:
+    file = volumes.with_name("pages") / "moon-2-pages-1.brf"
+    if is_there:
+        file.write_bytes(b"older")
+    replace = os.replace
+
+    def replaced(one: str, other: str, **folders: int) -> None:
+        if is_renamed:
+            replace(one, other, **folders)
+        raise Interrupted(signal.SIGTERM)
+
+    monkeypatch.setattr(os, "replace", replaced)
+    said = StringIO()
+    words = ["export", str(volumes), str(file.parent), "--page", "1", "--volume", "2"]
+    with pytest.raises(Interrupted) as stopped:
+        run_words(words, Console(BytesIO(), StringIO(), said))
+    assert stopped.value.is_said
+    assert said.getvalue() == f"Stopped by SIGTERM. {told.format(file)}\n"
+    assert file.exists() == (is_there or is_renamed)
+
+
 @pytest.mark.parametrize(
     "there, told",
     [

@@ -462,6 +462,17 @@ def test_change_means_the_paragraph_of_the_mark_in_hand_if_it_names_none(
     ]
     # a number is that of a paragraph, as ever
     assert talk.type("change 2 Tides Tide")[0] == "Paragraph 2: The [Tide]"
+    missing = [
+        "The book has no paragraph 2006: it has",
+        "the paragraphs 1 to 3.",
+    ]
+    assert talk.type("change 2006 2007") == [
+        *missing,
+        "To change a number in paragraph 1, begin",
+        "with that of the paragraph: change 1 OLD",
+        "NEW.",
+    ]
+    assert talk.type("change 2006 far near") == missing
     talk.type("resolve")
     assert talk.type("change near far")[0] == "Argument PARA: 'near' is not a number."
 
@@ -824,8 +835,8 @@ def test_a_talk_goes_on_where_the_mark_in_hand_is_no_more(
     talk.type("next")
     os.kill(talk.program(), signal.SIGKILL)
     Path(f"{moon}-wal").unlink()
-    shutil.copyfile(made_once / "supplied.braildesk", moon.with_name("earlier"))
-    moon.with_name("earlier").replace(moon)
+    # written over in place, so that it is the same file
+    shutil.copyfile(made_once / "supplied.braildesk", moon)
     said = " ".join(" ".join(talk.type("list")).split())
     assert "another program changed it meanwhile" in said
     assert talk.type("type end en The sun")[-1] == "The book is at version 2."

@@ -387,6 +387,10 @@ def test_a_program_that_is_not_there_is_said(moon: Path) -> None:
             " What was changed in a book before that is kept.\nother is a copy of moon.braildesk, at"
             " version 7.",
         ),
+        (
+            ("new", "other"),
+            " What was changed in a book before that is kept.\nother is a new book with the table ueb.",
+        ),
     ],
 )
 def test_a_full_output_is_said_and_ends_with_3(

@@ -49,7 +49,9 @@ _LASTING = ("text", "table")
 FOCUS, SELECTION = "object:state-changed:focused", "object:text-selection-changed"
 #: What is told of a text that comes into a part.
 INSERTED = "object:text-changed:insert"
-_TOLD = (FOCUS, "object:text-caret-moved", SELECTION)
+#: What is told of a caret that moves.
+CARET = "object:text-caret-moved"
+_TOLD = (FOCUS, CARET, SELECTION)
 
 #: States of parts.
 EDITABLE, FOCUSABLE = Atspi.StateType.EDITABLE, Atspi.StateType.FOCUSABLE

@@ -179,6 +179,13 @@ def test_no_action_is_left_out_and_no_key_or_letter_stands_for_two() -> None:
     assert [name for name, item in ITEMS.items() if not item.key] == []
 
 
+def test_no_underlined_letter_stands_for_two_menus_or_for_two_actions_of_one() -> None:
+    menus = [[each.says for each in items if each] for items in MENUS.values()]
+    for names in ([*MENUS], *menus):
+        letters = [name[name.index("&") + 1].lower() for name in names]
+        assert len({*letters}) == len(letters), names
+
+
 def test_a_letter_does_the_same_as_in_the_terminal() -> None:
     letters = {item.letter: name for name, item in ITEMS.items() if item.letter}
     assert letters == {letter: name for letter, (name, _) in LETTERS.items()}

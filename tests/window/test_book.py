@@ -7,7 +7,7 @@ from typing import Any
 
 import pytest
 
-from braildesk import Displaced, Refused, Session, Style, new_book, requests
+from braildesk import Displaced, Lost, Refused, Session, Style, new_book, requests
 from braildesk.desk.draft import Aim, Draft
 from braildesk.desk.search import Spot
 from braildesk.protocol.requests import Command, Correct, Mark, Table, Type
@@ -16,6 +16,8 @@ from braildesk.text.spans import Span
 from scribe.window.book import Done, NotAll, NothingToTakeBack, OpenBook, PartKept
 
 from conftest import prints
+
+_ANEW = "correction {} of paragraph 2 was taken back. It was made anew."
 
 
 @pytest.fixture
@@ -66,16 +68,61 @@ def test_of_paragraphs_one_of_which_is_refused_those_before_it_are_typed(
     assert [each.id for each in book.contents().paragraphs] == [1, 4, 2, 3]
 
 
-def test_a_correction_that_was_taken_back_by_itself_is_not_taken_back_once_more(
+def test_a_correction_that_was_taken_back_by_itself_is_made_anew_and_then_taken_back(
     book: OpenBook,
 ) -> None:
     book.session.correct(2, 6, 0, "o")
     book.done(requests.Style(1, Style.HEADING))
     book.done(requests.Correct(2, 0, 3, "A"))
+    for _ in range(2):
+        book.done(requests.Undo(2))
+    assert book.session.print_of(2) == "The mon is far away."
+    for said, text in (
+        (_ANEW.format(1), "The moon is far away."),
+        (_ANEW.format(2), "A moon is far away."),
+        ("paragraph 2 was corrected.", "The moon is far away."),
+        ("paragraph 1 was made a heading.", "The moon is far away."),
+    ):
+        done = book.taken_back(lambda *_: None)
+        assert done.said == f"Taken back: {said}"
+        assert book.session.print_of(2) == text
+
+
+def test_a_correction_is_made_anew_with_its_name_and_its_marks_are_where_they_were(
+    book: OpenBook,
+) -> None:
+    book.session.correct(2, 4, 3, "moon", by="anna")
+    book.done(requests.Mark(2, 1, 2, "so?"))
+    marks = book.session.marks_of(2)
     book.done(requests.Undo(2))
-    done = book.taken_back(lambda *_: None)
-    assert done.said == "Taken back: paragraph 1 was made a heading."
+    book.taken_back(lambda *_: None)
+    assert book.session.history_of(2)[-1].who == "anna"
+    assert book.session.marks_of(2) == marks
+
+
+def test_a_correction_whose_taking_back_was_not_answered_is_made_anew(
+    moon: Path, monkeypatch: pytest.MonkeyPatch
+) -> None:
+    book = OpenBook(moon, None, 0.0)
+    begun = book.opened().version
+    book.done(requests.Correct(2, 6, 0, "o"))
+    ask = book._ask
+
+    def unanswered(command: Command[Any]) -> Any:
+        ask(command)
+        version = book.session.last_version - 1
+        raise Lost("The program ended.", "", None, 9, version, (command,))
+
+    monkeypatch.setattr(book, "_ask", unanswered)
+    with pytest.raises(Lost) as lost:
+        book.done(requests.Undo(2))
+    monkeypatch.undo()
+    book.close()
+    book.open_after(lost.value, begun)
+    assert book.session.print_of(2) == "The mon is far away."
+    book.taken_back(lambda *_: None)
     assert book.session.print_of(2) == "The moon is far away."
+    book.close()
 
 
 def test_a_mark_that_was_resolved_is_put_again(book: OpenBook) -> None:
@@ -109,7 +156,7 @@ def test_a_mark_is_put_again_on_its_words_where_these_are_by_then(
 ) -> None:
     book.done(requests.Correct(2, 0, 0, "And so, "))
     book.resolved(book.reading(book.contents().paragraphs[1]), 1)
-    book.done(requests.Undo(2))
+    book.session.undo(2)
     book.taken_back(lambda *_: None)
     marks = book.session.marks_of(2)
     assert [(mark.start, mark.stop, mark.resolved) for mark in marks] == [

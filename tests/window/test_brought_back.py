@@ -82,6 +82,7 @@ def test_what_is_typed_after_a_text_that_was_brought_back_is_taken_back_alone(
 
 
 def test_what_is_typed_by_hands_is_taken_back_and_is_not_given_up(desk: Desk) -> None:
+    desk.act("to_print")
     desk.window.print.put_caret(8)
     _type(desk, " rose.")
     desk.act("take_back")
@@ -146,6 +147,7 @@ def test_what_was_only_taken_away_and_is_there_again_is_not_set_aside(
     desk: Desk, place: int, count: int
 ) -> None:
     desk.choose(1)
+    desk.act("to_print")
     desk.window.print.put_caret(place)
     for _ in range(count):
         desk.window.print.textCursor().deletePreviousChar()
@@ -833,6 +835,7 @@ def test_texts_of_a_long_paragraph_are_told_by_where_they_are_not_as_the_book(
 
 
 def test_nothing_is_set_aside_where_what_was_taken_away_came_back(desk: Desk) -> None:
+    desk.act("to_print")
     cursor = desk.window.print.textCursor()
     cursor.select(cursor.SelectionType.WordUnderCursor)
     cursor.removeSelectedText()

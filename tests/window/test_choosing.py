@@ -59,6 +59,22 @@ def test_where_no_book_is_chosen_it_ends_without_noise(
     assert (window.program.returncode, shown, said) == (0, b"", b"")
 
 
+@pytest.mark.parametrize("text", ["could be", "no", "on"])
+def test_a_text_that_is_typed_on_where_a_book_is_asked_for_is_no_answer(
+    at: Open, text: str
+) -> None:
+    window = asked(at)
+    window.type(text)
+    window.press("Return")
+    said = "What is typed here is no answer. Tab goes to one, and Enter gives it."
+    label = f"Which book shall be opened?\n\n{said}"
+    window.part("label", label, window.dialog("braildesk"))
+    window.press("Return")
+    shown, errors = window.program.communicate()
+    assert (window.program.returncode, shown, errors) == (0, b"", b"")
+
+
+@pytest.mark.usefixtures("application")
 def test_a_new_book_takes_no_name_that_is_there_and_is_asked_for_again(
     moon: Path, tmp_path: Path, monkeypatch: pytest.MonkeyPatch
 ) -> None:
@@ -82,6 +98,7 @@ def test_a_new_book_takes_no_name_that_is_there_and_is_asked_for_again(
     assert str(moon) in said[1] and len(said) == 2
 
 
+@pytest.mark.usefixtures("application")
 def test_a_new_book_has_the_ending_of_books_also_with_a_full_stop_in_its_name(
     tmp_path: Path, monkeypatch: pytest.MonkeyPatch
 ) -> None:

@@ -9,7 +9,7 @@ from typing import Any
 
 import pytest
 
-from braildesk import Session, requests
+from braildesk import Session, new_book, requests
 from braildesk.desk.draft import Aim, Draft
 from braildesk.desk.drafts import Drafts
 from braildesk.desk.layout import PageSize
@@ -21,7 +21,7 @@ from PyQt6.QtWidgets import QApplication, QMessageBox
 
 from scribe.window import dialogs
 from scribe.window.actions import Actions
-from scribe.window.desk import Desk
+from scribe.window.desk import NO_PARAGRAPH, Desk
 from scribe.window.held import Held
 
 from conftest import Open, wait
@@ -397,6 +397,55 @@ def test_that_a_book_was_put_in_place_of_another_is_said_to_bar_taking_back(
     assert desk.window.message.text.startswith("There is nothing that Ctrl+Z could")
 
 
+@pytest.mark.parametrize("is_kept", [False, True])
+def test_another_book_that_is_there_as_a_session_ends_is_not_taken_for_this_one(
+    desk: Desk, moon: Path, is_kept: bool
+) -> None:
+    other = shutil.copyfile(moon, moon.with_name("other.braildesk"))
+    if is_kept:
+        desk.do(requests.Mark(2, 0, 1, ""))
+    desk.window.print.insertPlainText("Es war ")
+    other.replace(moon)
+    os.kill(desk.book.pid, signal.SIGKILL)
+    desk.act("keep")
+    saved = Path(f"{moon}-saved-1")
+    assert desk.is_closed
+    assert desk.window.message.text.startswith(
+        f"The session was ended by signal 9. The file of the book is no longer at “{moon}”: another"
+        " one was put there while it was open. All of the book, with what was kept last, is in the"
+        f" new file “{saved}”. Go on with that one, or look first what is at the old path by now."
+    )
+    assert desk.window.message.text.endswith(
+        f" What is typed is kept in {desk.drafts.place}."
+    )
+    waiting = Drafts(saved).waiting()
+    assert waiting is not None and waiting.text.startswith("Es war The ")
+    with Session(saved) as session:
+        assert len(session.marks_of(2)) == 1 + is_kept
+    # it goes with the book that is gone
+    Path(f"{moon}-wal").unlink(missing_ok=True)
+    desk.act("open_again")
+    assert "The file that is at the path now is open, at version 5." in (
+        desk.window.message.text
+    )
+    desk.act("give_up")
+
+
+def test_another_book_that_came_after_a_session_ended_is_not_said_to_be_this_one(
+    desk: Desk, moon: Path
+) -> None:
+    other = shutil.copyfile(moon, moon.with_name("other.braildesk"))
+    moon.rename(moon.with_name("away.braildesk"))
+    os.kill(desk.book.pid, signal.SIGKILL)
+    desk.act("strike")
+    assert desk.is_closed
+    other.rename(moon)
+    desk.act("open_again")
+    assert "The file that is at the path now is open, at version 5." in (
+        desk.window.message.text
+    )
+
+
 def test_lines_that_were_not_typed_yet_wait_if_the_window_is_ended(
     desk: Desk, asked: dict[str, int], monkeypatch: pytest.MonkeyPatch
 ) -> None:
@@ -667,6 +716,67 @@ def test_what_is_kept_is_not_taken_back_with_what_is_typed_after_it(
     assert document is not None and document.isRedoAvailable()
 
 
+def _correct_and_type(desk: Desk, typed: str) -> None:
+    """Has the chosen paragraph be corrected, and then something else be typed in it."""
+    desk.do(requests.Correct(1, 0, 3, "A"))
+    desk.act("to_print")
+    desk.window.print.put_caret(0)
+    desk.window.print.insertPlainText(typed)
+
+
+@pytest.mark.parametrize("act", ["to_message", "to_paragraphs", "to_cells"])
+def test_what_was_typed_and_taken_back_is_typed_again_wherever_the_focus_is(
+    desk: Desk, act: str
+) -> None:
+    _correct_and_type(desk, "☾")
+    version, window = desk.contents.version, desk.window
+    if act == "to_message":
+        desk.act("keep")
+    else:
+        desk.act(act)
+    assert window.focusWidget() is not window.print
+    desk.act("take_back")
+    assert window.print.text == "A Moon"
+    desk.act("undo_here")
+    assert (window.print.text, window.focusWidget()) == ("☾A Moon", window.print)
+    assert window.message.text == "Typed again: what was taken back last."
+    assert desk.asked(desk.book.contents).version == version
+    window.print.insertPlainText("so")
+    assert window.message.text == ""
+    desk.act("give_up")
+
+
+@pytest.mark.parametrize("act", ["to_message", "to_paragraphs", "to_cells"])
+def test_that_what_was_typed_is_taken_back_is_said_where_the_print_has_no_focus(
+    desk: Desk, act: str
+) -> None:
+    field, message = desk.window.print, desk.window.message
+    desk.act("to_print")
+    field.put_caret(8)
+    field.insertPlainText(" rose")
+    desk.act(act)
+    desk.act("take_back")
+    said = "Taken back: what was typed last."
+    assert (field.text, message.text) == ("The Moon", said)
+    desk.act("undo_here")
+    assert field.text == "The Moon rose"
+    # where it has, a screen reader says what goes
+    desk.say("")
+    desk.act("take_back")
+    assert (field.text, message.text) == ("The Moon", "")
+
+
+def test_once_something_else_was_done_the_newest_correction_is_taken_back(
+    desk: Desk,
+) -> None:
+    _correct_and_type(desk, "☾")
+    desk.act("take_back")
+    desk.act("heading")
+    desk.act("to_paragraphs")
+    desk.act("undo_here")
+    assert desk.window.print.text == "The Moon"
+
+
 @pytest.mark.parametrize(
     "part, text, said", [("print", "The Moon#", ""), ("table", "The Moon", "Taken")]
 )
@@ -718,6 +828,22 @@ def test_what_was_done_after_a_letter_was_taken_away_is_taken_back_before_it(
     desk.act("take_back")
     assert desk.window.message.text.startswith("Taken back: paragraph 1 ")
     assert field.text == "The Moon"
+
+
+def test_in_a_book_without_a_paragraph_it_is_said_once_why_nothing_is_typed(
+    application: QApplication, tmp_path: Path
+) -> None:
+    new_book(path := tmp_path / "empty.braildesk", holding=[requests.Supply("en")])
+    desk = Desk(path, None, 0.0, PageSize())
+    desk.acts = Actions(desk).by_name
+    desk.begin()
+    desk.say("")
+    desk.act("strike")
+    for letter in "tr":
+        desk.window.message.typed_on.emit(letter)
+    said = desk.window.message.text
+    desk.close()
+    assert said == f"{NO_PARAGRAPH} Nothing was typed."
 
 
 @pytest.fixture
@@ -845,6 +971,29 @@ def test_of_a_file_with_all_of_a_book_it_is_not_said_at_the_end_to_be_where_it_i
     assert desk.so_now(desk.loss) == gone
     assert not desk.is_left()
     assert stays == [f"{gone} What was typed last was in it."]
+
+
+@pytest.mark.parametrize("is_moved", [False, True])
+def test_of_a_book_that_is_gone_it_is_said_at_the_end_that_a_file_is_at_its_path_again(
+    shelved: Desk, stays: list[str], is_moved: bool
+) -> None:
+    desk = shelved
+    desk.path.unlink()
+    desk.act("strike")
+    saved = desk.path.with_name(f"{desk.path.name}-saved-1")
+    said = desk.loss
+    assert str(saved) in said and desk.so_now(said) == said
+    if is_moved:
+        saved.rename(desk.path)
+        cause = said.split(" while it was open. ")[0] + " while it was open."
+        said = f"{cause} All of the book was in “{saved}”, where no file is any more."
+    else:
+        shutil.copyfile(saved, desk.path)
+    said = f"{said} A file is at “{desk.path}” again."
+    assert desk.so_now(desk.loss) == said
+    assert not desk.is_left()
+    assert stays == [said]
+    assert desk.so_now("") == ""
 
 
 def test_a_text_is_dropped_on_a_book_of_which_the_file_is_gone_and_where_that_is_is_said(

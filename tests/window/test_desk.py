@@ -11,8 +11,8 @@ from threading import Event
 from typing import Any
 
 import pytest
-from PyQt6.QtCore import QMimeData, QPointF, Qt, QTimer, QUrl
-from PyQt6.QtGui import QDropEvent
+from PyQt6.QtCore import QEvent, QMimeData, QPointF, Qt, QTimer, QUrl
+from PyQt6.QtGui import QDropEvent, QKeyEvent
 from PyQt6.QtWidgets import QApplication, QDialog, QLabel
 
 from braildesk import CannotOpen, Session, Style, Why, copy, new_book, requests
@@ -32,7 +32,8 @@ from braildesk.text.spans import Span
 from scribe.window import dialogs
 from scribe.window.actions import Actions
 from scribe.window.book import Contents, OpenBook
-from scribe.window.desk import CLOSED, Desk
+from scribe.window.desk import CLOSED, NO_PARAGRAPH, Desk
+from scribe.window.fields import LINE_END
 from scribe.window.files import Files
 from scribe.window.held import Held
 from scribe.window.worker import Worker
@@ -50,6 +51,9 @@ from scribe.words.status import Stop
 
 from conftest import Answers, wait
 from reader import PATIENCE_SECONDS
+
+
+_NONE = Qt.KeyboardModifier.NoModifier
 
 
 def _paste(desk: Desk, text: str) -> None:
@@ -503,6 +507,25 @@ def test_with_nothing_to_take_back_a_correction_is_named_only_where_there_is_one
     assert desk.window.message.text == nothing
 
 
+def test_a_correction_that_was_taken_back_by_its_key_is_made_anew_by_the_other_one(
+    desk: Desk,
+) -> None:
+    number = desk.settled()
+    desk.asked(lambda: desk.book.session.correct(number, 0, 3, "A"))
+    desk.choose(1)
+    desk.act("heading")
+    desk.choose(0)
+    desk.act("undo_here")
+    assert desk.window.print.text == "The Moon"
+    desk.act("take_back")
+    assert desk.window.print.text == "A Moon"
+    assert desk.window.message.text == (
+        "Taken back: correction 1 of paragraph 1 was taken back. It was made anew."
+    )
+    desk.act("take_back")
+    assert desk.window.message.text == "Taken back: paragraph 2 was made a heading."
+
+
 def test_a_row_that_others_than_hands_choose_meanwhile_is_not_the_one_in_which_is_typed(
     desk: Desk, application: QApplication
 ) -> None:
@@ -643,6 +666,54 @@ def test_what_is_typed_stays_what_it_is_where_cells_are_shown_otherwise(
     assert desk.window.message.text == "Copied in Braille ASCII: 1 cell."
 
 
+def _in_cells(desk: Desk, cell: int) -> tuple[int, int, str]:
+    """Has the caret of the braille be on a cell; where it and that of the print are, and what is said of it."""
+    desk.choose(1)
+    desk.act("to_cells")
+    desk.window.cells.put_caret(cell)
+    return _carets(desk)
+
+
+def _carets(desk: Desk) -> tuple[int, int, str]:
+    window = desk.window
+    return window.print.place, window.cells.place, window.here.text
+
+
+def test_the_carets_stay_where_they_are_as_cells_are_shown_otherwise(
+    desk: Desk,
+) -> None:
+    before = _in_cells(desk, 12)
+    desk.act("notation")
+    print_place, cell, said = _carets(desk)
+    assert (print_place, cell) == before[:2] and "spelled so" not in said
+    desk.act("notation")
+    assert _carets(desk) == before
+
+
+def test_the_carets_stay_at_what_was_typed_once_it_is_taken_back_from_the_braille(
+    desk: Desk, application: QApplication
+) -> None:
+    place, cell, said = _in_cells(desk, 12)
+    desk.act("to_print")
+    desk.window.print.insertPlainText("so ")
+    cells = desk.window.cells
+    assert wait(application, 60, lambda: "⠎⠕ " in cells.text or "⠎⠕⠀" in cells.text)
+    desk.act("to_cells")
+    desk.act("take_back")
+    assert desk.window.print.text == "The mon is far away."
+    assert _carets(desk) == (place, cell, said)
+
+
+def test_the_carets_stay_as_a_correction_is_taken_back_from_the_braille(
+    desk: Desk,
+) -> None:
+    desk.choose(1)
+    desk.do(requests.Correct(2, 16, 3, "by"))
+    before = _in_cells(desk, 12)
+    desk.act("undo_here")
+    assert _carets(desk) == before
+
+
 @pytest.mark.parametrize("act", ["copy_unicode", "copy_ascii"])
 @pytest.mark.parametrize("typed", ["", "#"])
 def test_where_no_cells_are_nothing_is_copied(desk: Desk, act: str, typed: str) -> None:
@@ -655,6 +726,98 @@ def test_where_no_cells_are_nothing_is_copied(desk: Desk, act: str, typed: str) 
     assert desk.window.message.text == "There are no cells here, so nothing was copied."
     assert clipboard.text() == "moon"
     desk.act("give_up")
+
+
+def test_enter_in_the_table_of_an_empty_book_says_that_it_has_no_paragraph(
+    application: QApplication, tmp_path: Path
+) -> None:
+    new_book(path := tmp_path / "empty.braildesk", holding=[requests.Supply("en")])
+    desk = Desk(path, None, 0.0, PageSize())
+    desk.acts = Actions(desk).by_name
+    desk.begin()
+    desk.say("")
+    enter = QKeyEvent(QEvent.Type.KeyPress, Qt.Key.Key_Return, _NONE, "\r")
+    QApplication.sendEvent(desk.window.table, enter)
+    assert desk.window.message.text == NO_PARAGRAPH
+    assert desk.window.focusWidget() is desk.window.message
+    # but one that is typed is gone to
+    desk.act("new_after")
+    desk.act("to_paragraphs")
+    enter = QKeyEvent(QEvent.Type.KeyPress, Qt.Key.Key_Return, _NONE, "\r")
+    QApplication.sendEvent(desk.window.table, enter)
+    assert desk.window.focusWidget() is desk.window.print
+    desk.close()
+
+
+@pytest.mark.parametrize("part, first", [("to_cells", ""), ("to_print", "sea")])
+@pytest.mark.parametrize("act", ["change", "change_all"])
+def test_words_that_were_looked_for_are_offered_to_be_changed_and_cells_are_not(
+    desk: Desk, monkeypatch: pytest.MonkeyPatch, part: str, first: str, act: str
+) -> None:
+    offered: list[object] = []
+
+    def fields(*words: Any) -> None:
+        offered.append(words[3][0])
+
+    monkeypatch.setattr(dialogs, "text", lambda *words: "sea")
+    desk.act(part)
+    desk.act("find")
+    monkeypatch.setattr(dialogs, "text", lambda *words: offered.append(words[3]))
+    monkeypatch.setattr(dialogs, "fields", fields)
+    desk.act(act)
+    assert offered == [first]
+
+
+def _on_page(desk: Desk) -> str:
+    """What the page shows, in one line."""
+    return desk.window.page.text.replace(LINE_END, " ")
+
+
+def test_the_page_is_that_of_the_chosen_paragraph_also_while_something_is_typed(
+    application: QApplication, desk: Desk
+) -> None:
+    desk.window.show()
+    for _ in range(2):
+        desk.act("page")
+    desk.choose(2, 12)
+    desk.window.print.insertPlainText("Zz ")
+    desk.act("page")
+    said = "Paragraph 3, character 13: volume 1, page 1, line 3, "
+    page = desk.window.page
+    assert wait(application, 60, lambda: _on_page(desk).startswith(said))
+    assert desk.window.message.text == "The page is shown beside the book."
+    assert "⠵⠵" not in page.text
+    desk.act("give_up")
+
+
+def test_where_no_page_can_be_shown_it_is_said_why(
+    application: QApplication,
+    desk: Desk,
+    other: Path,
+    monkeypatch: pytest.MonkeyPatch,
+) -> None:
+    desk.window.show()
+    for _ in range(2):
+        desk.act("page")
+    desk.act("new_after")
+    desk.window.print.insertPlainText("Zz ")
+    empty = Desk(other, None, 0.0, PageSize())
+    empty.acts = Actions(empty).by_name
+    empty.begin()
+    empty.window.show()
+    new = "The new paragraph isn't in the book yet, so it is on no page."
+    for each, why in ((desk, new), (empty, NO_PARAGRAPH)):
+        each.act("page")
+        assert each.window.message.text == why
+        assert wait(application, 60, lambda: _on_page(each) == why)
+        each.act("page")
+        assert each.window.message.text == "The page is hidden."
+    empty.close()
+    desk.act("give_up")
+    monkeypatch.setattr(desk, "is_closed", True)
+    desk.act("page")
+    assert desk.window.message.text == CLOSED
+    monkeypatch.undo()
 
 
 def test_no_page_is_shown_of_a_book_that_was_changed_meanwhile(

@@ -4,6 +4,7 @@ import errno
 import os
 import signal
 from pathlib import Path
+from stat import S_IMODE
 
 import pytest
 
@@ -214,3 +215,20 @@ def test_what_became_of_a_proof_is_said_where_the_disk_fails(
     monkeypatch.setattr("scribe.window.files.write_whole", write)
     desk.act("proof")
     assert desk.window.message.text.startswith(f"{proof} {said}")
+
+
+def test_a_proof_of_a_book_that_is_not_held_beside_the_program_is_its_owners_alone(
+    desk: Desk, monkeypatch: pytest.MonkeyPatch
+) -> None:
+    proof = desk.path.with_name("moon.html")
+    desk.path.chmod(0o666)
+
+    def closed(_: Session) -> int:
+        # as where a link was in the place of the book for a moment
+        raise ValueError("the file is closed")
+
+    monkeypatch.setattr(dialogs, "file_to_write", lambda *_: proof)
+    monkeypatch.setattr(Session, "fileno", closed)
+    desk.act("proof")
+    assert desk.window.message.text == f"{proof}: 1 page."
+    assert S_IMODE(proof.stat().st_mode) == 0o600

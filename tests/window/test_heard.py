@@ -18,6 +18,7 @@ from scribe.window.worker import _MOMENT_SECONDS
 
 from conftest import Open, wait
 from reader import (
+    CARET,
     EDITABLE,
     FOCUS,
     FOCUSABLE,
@@ -33,6 +34,21 @@ from reader import (
 )
 from steps import STEPS
 
+# parts from which the print takes the focus, each by its key
+_ELSEWHERE = ("F5", "table", "Paragraphs"), ("F6", "text", "Message")
+# keys that keep first what is typed, what a dialog of theirs is answered, and what they say after that
+_AFTER_KEPT = (
+    ("F4", "", "Mark 1, open, on “mon”: spelled so?"),
+    ("F3", "", "Paragraph 2, character 6."),
+    ("Ctrl+d", "", "Kept: paragraph 2 struck."),
+    (
+        "Shift+F4",
+        "",
+        "This is the last in the book. Mark 1, open, on “mon”: spelled so?",
+    ),
+    ("Ctrl+m", "Return", "Kept: mark 2."),
+    ("Ctrl+m", "Escape", ""),
+)
 FIXTURE = Path(__file__).with_name("orca.txt")
 
 
@@ -249,6 +265,52 @@ def test_what_is_said_or_shown_where_the_print_keeps_the_focus_is_spoken_once(
             assert window.selected("Print") == ""
 
 
+@pytest.mark.parametrize("key, answer, said", _AFTER_KEPT)
+def test_what_a_key_keeps_first_is_said_before_what_it_does(
+    window: Reader, key: str, answer: str, said: str
+) -> None:
+    window.press("Ctrl+f")
+    window.dialog("Find")
+    window.type("mon")
+    window.press("Return")
+    window.no_dialog()
+    window.says("Paragraph 2, character 5.")
+    window.press("Home")
+    window.caret("Print", 0)
+    window.type("x")
+    window.reads("Print", "xThe mon is far away.")
+    window.press(key)
+    if answer:
+        window.dialog("Mark in paragraph 2")
+        window.press(answer)
+        window.no_dialog()
+    kept = f"Kept: correction 1 of paragraph 2. {said}".rstrip()
+    window.reads("Message", kept)
+    if answer:
+        # the print takes the focus again, and what is said with it
+        field = window.part("text", "Print")
+        window.until("it", lambda: str(field.get_description()) == kept)
+    else:
+        window.until("it", lambda: _spoken(window) == kept)
+
+
+def test_what_was_kept_is_said_of_a_new_paragraph_that_is_begun_from_the_table(
+    window: Reader,
+) -> None:
+    window.press("F2")
+    window.focus("text", "Print")
+    window.type("x")
+    window.reads("Print", "xThe Moon")
+    window.press("F5")
+    window.focus("table", "Paragraphs")
+    window.press("Ctrl+Return")
+    window.focus("text", "Print")
+    new, kept = "A new paragraph after paragraph 1, table en", "Kept: correction 1"
+    window.says(kept)
+    its = window.part("text", "Print").get_description()
+    assert its == f"{new}. {kept} of paragraph 1."
+
+
 def test_a_new_paragraph_is_spoken_before_the_text_that_was_given_up_for_it(
     window: Reader,
 ) -> None:
@@ -333,6 +395,62 @@ def test_the_print_has_a_text_that_is_brought_back_before_it_takes_the_focus(
         window.says("All that is noted as typed")
     of_print = [kind for kind, name in heard if name == "Print"]
     assert of_print == [INSERTED, FOCUS]
+
+
+@pytest.mark.parametrize("key, role, name", _ELSEWHERE)
+def test_the_print_takes_the_focus_before_its_caret_moves_as_a_paragraph_is_begun(
+    window: Reader, heard: list[tuple[str, str]], key: str, role: str, name: str
+) -> None:
+    window.press("F4")
+    window.says("Mark 1")
+    window.caret("Print", 4)
+    window.press(key)
+    window.focus(role, name)
+    window.until("the focus there", lambda: FOCUS in [kind for kind, _ in heard[-2:]])
+    heard.clear()
+    window.press("Ctrl+Return")
+    window.caret("Print", 0)
+    window.until("the caret", lambda: (CARET, "Print") in heard)
+    assert [kind for kind, of in heard if of == "Print"][0] == FOCUS
+
+
+def test_what_is_taken_back_comes_into_the_message_that_has_the_focus_unselected(
+    window: Reader,
+) -> None:
+    window.press("Down", "Down", "Alt+Up", "Alt+Up")
+    window.says("Kept: paragraph 3 moved to the front.")
+    window.press("F6")
+    window.focus("text", "Message")
+    # Orca reads what comes in after Ctrl+Z, and says of what is selected then only that it is
+    with hearing((INSERTED, SELECTION)) as told:
+        for said in ("Taken back: paragraph 3 was moved.",) * 2:
+            told.clear()
+            window.press("Ctrl+z")
+            window.reads("Message", said)
+            window.until("what came in", lambda: (INSERTED, "Message") in told)
+        window.press("Ctrl+z")
+        window.says("There is nothing that Ctrl+Z could take back.")
+    assert (SELECTION, "Message") not in told
+    assert window.selected("Message") == ""
+    window.press("Alt+Up")
+    window.selects("Message", "Kept: paragraph 3 moved after 1.")
+
+
+def test_what_a_dialog_was_answered_from_the_message_is_not_selected_there(
+    window: Reader, heard: list[tuple[str, str]]
+) -> None:
+    window.press("F6")
+    window.focus("text", "Message")
+    window.press("Ctrl+m")
+    window.dialog("Mark in paragraph 1")
+    heard.clear()
+    window.press("Return")
+    window.no_dialog()
+    window.says("Kept: mark 2.")
+    window.until("the focus there", lambda: (FOCUS, "Message") in heard)
+    # it is read as it takes the focus, and would be once more
+    assert (SELECTION, "Message") not in heard
+    assert window.selected("Message") == ""
 
 
 def test_the_print_takes_the_focus_after_a_dialog_once_it_has_its_new_text(

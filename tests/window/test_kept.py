@@ -4,6 +4,8 @@ import os
 import signal
 import subprocess
 import sys
+from collections.abc import Iterator
+from contextlib import contextmanager
 from pathlib import Path
 
 import pytest
@@ -11,7 +13,7 @@ from PyQt6.QtCore import QTimer
 from PyQt6.QtGui import QInputMethodEvent
 from PyQt6.QtWidgets import QApplication, QPushButton, QWidget
 
-from braildesk import DeskError, Session
+from braildesk import DeskError, Session, Style
 from braildesk.desk.draft import Aim, Draft
 from braildesk.desk.drafts import Drafts
 
@@ -169,6 +171,30 @@ def test_a_text_that_is_asked_about_is_said_to_wait_where_a_signal_comes(
     assert Drafts(moon).waiting() == soon
 
 
+@pytest.mark.parametrize("is_typed", [False, True])
+def test_what_waits_is_kept_again_at_the_end_where_its_folder_was_taken_away(
+    moon: Path, at: Open, tmp_path: Path, is_typed: bool
+) -> None:
+    soon = Draft(Aim.EDIT, 1, "en", "The Moon", "The Moon rose.", None, 5)
+    Drafts(moon).save(soon)
+    window = at(moon, is_waited_for=False)
+    window.dialog("Unsent text")
+    window.press("Return" if is_typed else "Escape")
+    window.no_dialog()
+    window.opened()
+    if is_typed:
+        window.reads("Print", soon.text)
+    else:
+        window.says("The text waits.")
+    (tmp_path / "state" / "braildesk").rename(tmp_path / "away")
+    if is_typed:
+        window.program.send_signal(signal.SIGTERM)
+    else:
+        window.press("Ctrl+q")
+    assert window.end() == (-signal.SIGTERM if is_typed else 0)
+    assert Drafts(moon).waiting() == soon
+
+
 def _joined(said: bytes) -> str:
     return " ".join(said.decode().split())
 
@@ -288,6 +314,31 @@ def test_a_book_that_is_open_elsewhere_is_not_shown(moon: Path, at: Open) -> Non
     with Session(moon):
         sentence = f"Another program has “{moon}” open. Nothing was changed. That one must end first."
         _cannot_be_opened(at(moon, is_waited_for=False), moon, sentence)
+
+
+@pytest.mark.parametrize("is_kept", [True, False])
+def test_what_is_typed_where_a_book_is_not_shown_closes_nothing_and_is_set_aside(
+    moon: Path, tmp_path: Path, at: Open, is_kept: bool
+) -> None:
+    if not is_kept:
+        (tmp_path / "state" / "braildesk").write_text("")
+    with Session(moon):
+        with pytest.raises(DeskError) as refused:
+            Session(moon)
+        window = at(moon, is_waited_for=False)
+        top = window.dialog(moon.name)
+        window.type(" could be")
+        window.press("Return")
+        said = f"{refused.value.sentence}\n\nWhat is typed here is set aside. Enter closes this."
+        window.part("label", said, top)
+        window.press("Return")
+        if not is_kept:
+            unkept = "This was typed, and could not be kept: could be"
+            window.part("label", unkept, window.dialog(moon.name, unkept))
+            window.press("Escape")
+        assert window.end() == 2
+    if is_kept:
+        assert [each.text for each in Drafts(moon).given_up()] == ["could be"]
 
 
 def test_a_file_that_is_no_book_is_not_shown(tmp_path: Path, at: Open) -> None:
@@ -479,33 +530,77 @@ def test_places_that_were_changed_one_by_one_are_in_the_book_after_a_kill(
     again.part("label", f"{said} Shall the others be changed?")
 
 
-@pytest.mark.parametrize("typed", ["", "The Moon and"])
-def test_where_the_x_server_ends_what_is_typed_is_kept_and_that_is_said(
-    moon: Path, at: Open, typed: str
-) -> None:
+@contextmanager
+def _screen() -> Iterator[str]:
+    """The name of a screen whose X server ends after that."""
     reading, writing = os.pipe()
     words = ["Xvfb", "-displayfd", str(writing), "-noreset"]
     quiet = subprocess.DEVNULL
     with subprocess.Popen(words, pass_fds=[writing], stderr=quiet) as server:
-        display = os.read(reading, 100).decode().strip()
-        window = at(moon, DISPLAY=f":{display}")
+        try:
+            yield f":{os.read(reading, 100).decode().strip()}"
+        finally:
+            server.kill()
+    os.close(reading)
+    os.close(writing)
+
+
+_SCREEN_GONE = "The screen is gone: its X server or its compositor ended."
+
+
+@pytest.mark.parametrize("typed", ["", "The Moon and"])
+def test_where_the_x_server_ends_what_is_typed_is_kept_and_that_is_said(
+    moon: Path, at: Open, typed: str
+) -> None:
+    with _screen() as display:
+        window = at(moon, DISPLAY=display)
         if typed:
             window.insert("Print", typed)
             window.reads("Print", typed)
-        server.kill()
-    os.close(reading)
-    os.close(writing)
     shown, said = window.program.communicate(timeout=PATIENCE_SECONDS)
     assert (window.program.returncode, shown) == (3, b"")
-    sentence = (
-        "The screen is gone: its X server or its compositor ended. What was reported as kept is in"
-        " the book."
-    )
+    sentence = f"{_SCREEN_GONE} What was reported as kept is in the book."
     waits = " What was typed and isn't in the book is kept, and is offered when it is next opened."
     assert (sentence + waits * bool(typed)) in " ".join(said.decode().split())
     waiting = Drafts(moon).waiting()
     assert (waiting.text if waiting else "") == typed
     assert prints(moon)[0] == "The Moon"
+
+
+@pytest.mark.parametrize(
+    "is_kept, is_noticed", [(False, False), (True, False), (True, True)]
+)
+def test_where_the_x_server_ends_once_the_book_is_gone_it_is_saved_and_said_where(
+    moon: Path, at: Open, is_kept: bool, is_noticed: bool
+) -> None:
+    with _screen() as display:
+        window = at(moon, DISPLAY=display)
+        if is_kept:
+            window.click(window.part("menu item", "Heading or body"))
+            window.reads("Message", "Kept: paragraph 1 a heading.")
+        moon.unlink()
+        if is_noticed:
+            window.click(window.part("menu item", "Strike or restore"))
+            window.says("is in the new file")
+        elif is_kept:
+            window.insert("Print", "The Moon and")
+            window.reads("Print", "The Moon and")
+    _, said = window.program.communicate(timeout=PATIENCE_SECONDS)
+    assert window.program.returncode == 3
+    cause = f"The file of the book is no longer at “{moon}”: it was removed or moved while it was open."
+    saved = moon.with_name(f"{moon.name}-saved-1")
+    so = "Nothing was changed in it here."
+    if is_kept:
+        so = f"All of the book, with what was kept last, is in the new file “{saved}”."
+    assert f"{_SCREEN_GONE} {cause} {so}" in _joined(said)
+    assert "What was reported as kept is in the book." not in _joined(said)
+    assert saved.exists() == is_kept
+    if is_kept:
+        with Session(saved) as session:
+            assert session.paragraphs()[0].style is Style.HEADING
+        waiting = Drafts(saved).waiting()
+        typed = "" if is_noticed else "The Moon and"
+        assert (waiting.text if waiting else "") == typed
 
 
 def test_a_screen_that_is_not_there_is_said(moon: Path) -> None:

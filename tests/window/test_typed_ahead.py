@@ -1,7 +1,7 @@
 """What is typed for a line of a dialog before that has the keyboard: it comes into the line, in its order."""
 
 import signal
-from collections.abc import Iterator, Sequence
+from collections.abc import Callable, Iterator, Sequence
 from pathlib import Path
 
 import pytest
@@ -167,6 +167,45 @@ def test_what_came_before_a_dialog_comes_into_its_first_line_from_its_first_lett
     typed()
     lines = ("Words:", "Their place:"), ("moon", ""), ("Only whole words",)
     assert dialogs.fields(window, "Change", *lines) == (["sea", ""], [False])
+
+
+def _line(window: QMainWindow) -> str | None:
+    return dialogs.text(window, "Find", "Words:", "moon")
+
+
+def _folder(window: QMainWindow) -> str | None:
+    return dialogs.folder(window, "Export", "The folder:", "pages")
+
+
+def _first_of_lines(window: QMainWindow) -> str | None:
+    lines = ("Words:", "Their place:"), ("moon", ""), ("Only whole words",)
+    found = dialogs.fields(window, "Change", *lines)
+    return found[0][0] if found is not None else None
+
+
+@pytest.mark.usefixtures("patient")
+@pytest.mark.parametrize("asked", [_line, _folder, _first_of_lines])
+def test_letters_that_come_after_enter_before_a_dialog_is_gone_are_no_part_of_its_answer(
+    held: Held, window: QMainWindow, asked: Callable[[QMainWindow], str | None]
+) -> None:
+    noted: list[str] = []
+    held.note = noted.append
+    timer = QTimer()
+
+    def press() -> None:
+        dialog = QApplication.activeModalWidget()
+        if dialog is None or not dialog.isActiveWindow():
+            return
+        timer.stop()
+        for key in (*map(ord, "SEA"), Qt.Key.Key_Return, *map(ord, "UP")):
+            for event in _pressed(key):
+                QCoreApplication.postEvent(dialog.windowHandle(), event)
+
+    timer.timeout.connect(press)
+    timer.start(1)
+    assert asked(window) == "sea"
+    # they are noted as typed last
+    assert "".join(noted) == "sea\nup"
 
 
 class _Finding(QMainWindow):

@@ -21,7 +21,7 @@ from scribe.window.actions import Actions
 from scribe.window.book import NotAll
 from scribe.window.desk import Desk
 
-from conftest import Answers
+from conftest import Answers, wait
 
 
 def prints_of(desk: Desk) -> list[str]:
@@ -467,6 +467,28 @@ def test_headings_and_marks_are_gone_to_by_their_lists(
     )
 
 
+def test_why_a_volume_is_not_laid_out_is_said_once_in_a_list(
+    desk: Desk, given: Answers
+) -> None:
+    with_seven = b"space \\s 0\nletter m 134\nletter o 135\nletter n 13457\n"
+    desk.do(requests.Table("seven", with_seven))
+    desk.do(requests.Type("end", "seven", "mon"))
+    desk.do(requests.Style(4, Style.HEADING))
+    why = (
+        "Cell 3 of paragraph 4 has dot 7 or 8, which pages for embossers can't have, so volume 1"
+        " can't be exported. Correct the table of that paragraph."
+    )
+    given["line"] = 0
+    desk.act("headings")
+    desk.act("all_marks")
+    assert given["said"] == [
+        f"Headings: 1 heading. {why}",
+        "mon, volume 1, not laid out, paragraph 4",
+        f"All marks. {why}",
+        "Mark 1, open, volume 1, not laid out, paragraph 2, on “mon”: spelled so?",
+    ]
+
+
 def test_a_mark_is_in_hand_until_the_caret_is_moved_off_it(desk: Desk) -> None:
     window = desk.window
     desk.do(requests.Mark(2, 16, 4, "why?"))
@@ -599,6 +621,30 @@ def test_page_and_line_are_said_of_what_is_gone_to(desk: Desk, given: Answers) -
     desk.act("last_mark")
     mark = "Mark 2, open, on “T”: hour."
     assert desk.window.message.text == f"{mark} Volume 2, page 1 line 1."
+
+
+def test_a_word_made_as_one_with_the_end_of_the_word_before_has_its_own_line(
+    application: QApplication, desk: Desk, given: Answers
+) -> None:
+    table = b"space \\s 0\nletter a 1\nletter b 12\nletter c 14\nalways a\\sb 1-0-12\n"
+    desk.page_size = PageSize(10, 5)
+    desk.do(requests.Table("across", table))
+    desk.do(requests.Type("front", "across", "a a cca bc c"))
+    desk.window.show()
+    desk.act("page")
+    desk.act("pages_said")
+    given["text"] = "bc"
+    desk.act("find")
+    there = "Paragraph 4, character 9. Page 1 line 2."
+    assert desk.window.message.text == there
+    page = desk.window.page
+    title = "Paragraph 4, character 9: volume 1, page 1, line 2, of "
+    assert wait(application, 60, lambda: title in " ".join(page.text.split()))
+    desk.choose(1, 0)
+    given["text"] = "page 1 line 2"
+    desk.act("go_to")
+    assert (desk.number, desk.place) == (4, 8)
+    desk.window.hide()
 
 
 def test_a_proof_says_how_many_open_marks_are_on_none_of_its_pages(

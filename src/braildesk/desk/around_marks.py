@@ -7,7 +7,7 @@ several places is parted around the words of marks: these stay as they are, or a
 from collections import Counter
 from collections.abc import Callable, Iterable, Iterator, Mapping, Sequence
 from dataclasses import replace
-from itertools import groupby
+from itertools import groupby, pairwise
 
 from braildesk import Mark
 from braildesk.desk.correction import Correction, smallest_correction
@@ -80,9 +80,10 @@ def _stays(
 ) -> Iterator[_Stay]:
     """The words of some spans that stay as they are while others beside them change.
 
-    Of a span that changes too, these are the words that part its changes from those beside it.
+    Of a span that changes too, these are the words that part its changes from those beside it, or
+    what stands between its words and those beside it, if as many words come in place of both.
     """
-    before, further = _further(old, new, least)
+    before, further, between = _further(old, new, least)
     ends, new_ends = set(seams(old)), set(seams(new))
     for span in spans:
         its = [
@@ -102,6 +103,9 @@ def _stays(
             yield from _first(reversed(up_to), further)
         if span.stop <= least.stop:
             yield from _first(before[before.index(its[-1]) :], further)
+        for gap, by in between:
+            if gap.stop == its[0].start or gap.start == its[-1].stop:
+                yield gap, by
 
 
 def _first(words: Iterable[Span], further: Mapping[Span, int]) -> list[_Stay]:
@@ -111,8 +115,11 @@ def _first(words: Iterable[Span], further: Mapping[Span, int]) -> list[_Stay]:
 
 def _further(
     old: str, new: str, least: Correction
-) -> tuple[list[Span], dict[Span, int]]:
-    """The words that change or stand between such words; and those that stay, and how much further on."""
+) -> tuple[list[Span], dict[Span, int], list[_Stay]]:
+    """The words that change or stand between such words; and those that stay, and how much further on.
+
+    With these, what stands as it did between words in place of which as many others come.
+    """
     from difflib import SequenceMatcher  # which few edits need
 
     # signs are no part of the words beside them, unless that takes too long
@@ -124,13 +131,23 @@ def _further(
         if _steps(some, others) <= _MOST_STEPS:
             break
     else:
-        return [], {}
-    found = SequenceMatcher(None, some, others, autojunk=False).get_matching_blocks()
-    return before, {
-        before[one + nth]: after[other + nth].start - before[one + nth].start
-        for one, other, size in found
-        for nth in range(size)
-    }
+        return [], {}, []
+    further, between = dict[Span, int](), list[_Stay]()
+    matcher = SequenceMatcher(None, some, others, autojunk=False)
+    for what, one, stop, other, end in matcher.get_opcodes():
+        pairs = list(zip(before[one:stop], after[other:end]))
+        if what == "equal":
+            further |= {its: to.start - its.start for its, to in pairs}
+        elif stop - one == end - other:
+            between += _between(old, new, pairs)
+    return before, further, between
+
+
+def _between(old: str, new: str, pairs: Sequence[tuple[Span, Span]]) -> Iterator[_Stay]:
+    """What stands as it did between words of a print and those that come in place of them."""
+    for (its, to), (after, to_after) in pairwise(pairs):
+        if old[its.stop : after.start] == new[to.stop : to_after.start]:
+            yield Span(its.stop, after.start), to.stop - its.stop
 
 
 def _is_of_letters(piece: str) -> bool:

@@ -144,6 +144,8 @@ class Drafts:
         self._copied_later: tuple[Draft, ...] = ()
         # what is kept for other books as it was copied, by the names of its files
         self._as_copied: dict[str, bytes | None] = {}
+        # the books for which this was copied, as they were then: they may be moved on
+        self._others: dict[Path, Drafts] = {}
 
     @property
     def place(self) -> Path:
@@ -153,6 +155,14 @@ class Drafts:
     def waiting(self) -> Draft | None:
         """The text that waits, none if there is none."""
         return self._read(Begun.WAITING, draft_in)
+
+    def seen_waiting(self) -> Draft | None:
+        """The same, where what can't be read is no fault, and stays where it is."""
+        try:
+            kept = self._folder.read(self._name(Begun.WAITING))
+            return None if kept is None else draft_in(Record.of(kept))
+        except (NotSuch, OSError):
+            return None
 
     def typed_at(self) -> Path | None:
         """Where the book was as the text that waits was kept, if that isn't where it is now."""
@@ -554,7 +564,7 @@ class Drafts:
         The text that waited before, and was copied, doesn't wait there once it doesn't here. If the
         book was moved there, it takes all over by itself as it is opened.
         """
-        other = Drafts(book)
+        other = self._others.setdefault(book, Drafts(book))
         if self._file is not None and other._file == self._file:
             return
         with suppress(NotKept):

@@ -63,6 +63,11 @@ class Job:
         """The file of the pages of a volume that differ from those of the older file."""
         return self.folder / f"{self.name}-{volume}-changed.brf"
 
+    def pages_file(self, volume: int, wanted: Sequence[PageRange]) -> Path:
+        """The file of some pages of a volume alone."""
+        name = ",".join(each.name for each in wanted)
+        return self.folder / f"{self.name}-{volume}-pages-{name}.brf"
+
     def later_files(self, volumes: int) -> list[Path]:
         """Files of volumes that the book doesn't have, in their order."""
         found = {number: path for number, path in self._named("") if _is_file(path)}
@@ -430,8 +435,7 @@ def export_pages(
             raise WhichVolume(number) from missing
     pages = _parted(read)
     found = b"".join(page for each in wanted for page in each.of(number, pages))
-    name = ",".join(each.name for each in wanted)
-    file = job.folder / f"{job.name}-{number}-pages-{name}.brf"
+    file = job.pages_file(number, wanted)
     made = Export(job)
     with made.made_folder():
         made.write(number, file, found, access)

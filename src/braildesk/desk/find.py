@@ -31,7 +31,8 @@ _SIGNS = {
     Variant.APOSTROPHE: "'‘’‚‛‹›′ʼ`´",
     Variant.QUOTATION_MARKS: '"“”„‟«»″',
     Variant.DASH: "-‐‑‒–—―−",
-    Variant.BLANK: " \t\u00a0\u2002\u2003\u2007\u2009\u202f",
+    Variant.BLANK: " \t\u00a0\u1680\u2002\u2003\u2004\u2005\u2006\u2007\u2008\u2009\u200a\u202f"
+    "\u205f\u3000",
 }
 # a sigma at the end of a word is another small letter, and the same capital
 _SIGMA = str.maketrans("ς", "σ")

@@ -3,7 +3,7 @@
 from dataclasses import dataclass
 
 from braildesk import Session
-from braildesk.desk.places import words_of
+from braildesk.desk.places import Character, cells_on_lines, words_of
 from braildesk.desk.readings import ParagraphReading, answers
 from braildesk.protocol.requests import Where
 from braildesk.text.sequences import seams
@@ -41,6 +41,16 @@ def highlighted_by_character(
         return _NOTHING
     after = min(each for each in seams(text) if each > place)
     return Highlighted(Span(place, after), _cells(session, reading, place, after))
+
+
+def cell_on_line(session: Session, reading: ParagraphReading, its: Highlighted) -> int:
+    """A cell on the line of a character that is highlighted."""
+    number, text, braille = reading.paragraph.id, reading.text, reading.braille
+    if not text or not braille:
+        return its.cells.start
+    character = Character(number, its.words.start, text, braille)
+    (cell,) = cells_on_lines(session, [character])
+    return cell
 
 
 def _cells(session: Session, reading: ParagraphReading, place: int, after: int) -> Span:

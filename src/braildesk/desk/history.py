@@ -128,6 +128,12 @@ def _written(text: str) -> str:
 
 def newest_corrector(history: Sequence[Entry]) -> str | None:
     """The name that was given with the newest correction that is in force, if any was."""
+    newest = newest_correction(history)
+    return newest.who if newest is not None else None
+
+
+def newest_correction(history: Sequence[Entry]) -> Entry | None:
+    """The newest correction that is in force, if any is."""
     undone = {each.undone for each in history}
     there = [e for e in history if e.kind is Kind.CORRECT and e.seq not in undone]
-    return there[-1].who if there else None
+    return there[-1] if there else None

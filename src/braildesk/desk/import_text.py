@@ -39,6 +39,7 @@ from braildesk.desk.replacements import read_replacements
 from braildesk.desk.typist import CutShort, look_for, type_all
 from braildesk.desk.unfinished import NotSeen, digest_of, unfinished
 from braildesk.desk.validation import are_plain, faults
+from braildesk.desk.whole_file import Access
 from braildesk.named_files import is_handed_over
 from braildesk.protocol.value import Value
 from braildesk.session import HeldFile, session_beside
@@ -253,9 +254,10 @@ class Importer:
             reading = replace(reading, kind=None)
         return replace(job, how=replace(job.how, reading=reading))
 
-    def fileno(self) -> int:
-        """The file of the book, while it is open."""
-        return self._session.fileno()
+    @property
+    def access(self) -> Access:
+        """That of the file of the book, while it is open."""
+        return Access.of_session(self._session)
 
     def let_go(self) -> None:
         """Lets others have the book, as while a person reads what is lost of the text.

@@ -13,6 +13,8 @@ from braildesk.text.spans import Span
 
 # what waits is kept anew each time that such a part of its lines was typed
 _PART = 8
+# of how many of the newest paragraphs it is looked for whether one reads as a text
+_MOST_SINCE = 1_000
 
 
 class LinesLeft:
@@ -63,6 +65,22 @@ def lines_kept(
     asked = [Print(number) for number in newest]
     prints = [composed(text) for text in answers(session, asked)]
     return overlap(prints, lines)
+
+
+def reads_the_same(
+    session: Session, draft: Draft, version: int, numbers: Sequence[int]
+) -> int | None:
+    """The newest paragraph that a book of a version may have got since a text was typed and that reads as that.
+
+    It may be that text, where others typed paragraphs after it before what waits was looked at.
+    """
+    if not draft.aim.is_new or draft.version is None or version <= draft.version:
+        return None
+    since = sorted(numbers)[-min(version - draft.version, _MOST_SINCE) :]
+    wanted = composed(draft.text)
+    prints = answers(session, [Print(number) for number in since])
+    found = [number for number, text in zip(since, prints) if composed(text) == wanted]
+    return max(found, default=None)
 
 
 def lines_left(

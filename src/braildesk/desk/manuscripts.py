@@ -260,15 +260,7 @@ def _of_session(session: Session) -> tuple["Manuscript", Access]:
         Part(text, 1 if each.style is Style.HEADING else None)
         for each, text in zip(book, prints(session, book))
     )
-    return Manuscript(ManuscriptKind.BOOK, parts), _access_of(session)
-
-
-def _access_of(session: Session) -> Access:
-    """The access of the file of a session; its owner's alone where that isn't held beside the program."""
-    try:
-        return Access.read_by(session.pid, session.fileno())
-    except (OSError, ValueError):
-        return Access(0o600)
+    return Manuscript(ManuscriptKind.BOOK, parts), Access.of_session(session)
 
 
 def _texts(passage: Passage) -> Iterator[str]:

@@ -5,15 +5,17 @@ from dataclasses import dataclass
 
 from braildesk import Session
 from braildesk.desk.layout import Layout, PageSize, Placed, Row, Volume, parted, volume
-from braildesk.desk.places import words_of
+from braildesk.desk.places import Character, cells_on_lines, words_on_line
 from braildesk.desk.readings import prints
-from braildesk.text.cells import braille_ascii
 from braildesk.text.spans import Span
 
 
 @dataclass(frozen=True)
 class PagePlace:
-    """A line of a page of a volume, all counted from 1."""
+    """A line of a page of a volume, all counted from 1.
+
+    Page and line are 0 in a volume that isn't laid out, since pages can't have a cell of it.
+    """
 
     volume: int
     page: int
@@ -27,25 +29,34 @@ class PageMap:
         self._session = session
         self._page_size = page_size
         self._placed: dict[int, tuple[int, Placed]] = {}
+        self._eight_dots: dict[int, tuple[int, int]] = {}
+        #: The volumes of places that were asked for which aren't laid out, each with the first
+        #: paragraph with a cell of eight dots, and the place of that cell.
+        self.not_laid_out: dict[int, tuple[int, int]] = {}
         for number, paragraphs in enumerate(parted(session.paragraphs()), 1):
             its = volume(session, number, paragraphs, page_size)
-            # a volume with a cell that pages can't have has none
-            if all(braille_ascii(cells).isascii() for cells in its.brailles.values()):
-                for placed in its.layout.placed:
-                    self._placed[placed.section.paragraph] = number, placed
+            if its.eight_dots is not None:
+                self._eight_dots[number] = its.eight_dots
+            for placed in its.layout.placed:
+                self._placed[placed.section.paragraph] = number, placed
 
     def of_character(self, paragraph: int, place: int, text: str) -> PagePlace | None:
         """Where a character of a print stands; none if that is on no page."""
         if not text or paragraph not in self._placed:
             return None
-        last = min(place, len(text) - 1)
-        return self.of_cell(paragraph, self._session.output_position(paragraph, last))
+        last, (_, placed) = min(place, len(text) - 1), self._placed[paragraph]
+        its = Character(paragraph, last, text, placed.section.braille)
+        (cell,) = cells_on_lines(self._session, [its])
+        return self.of_cell(paragraph, cell)
 
     def of_cell(self, paragraph: int, cell: int) -> PagePlace | None:
         """Where a cell of a paragraph stands; none if that is on no page."""
         number, placed = self._placed.get(paragraph, (0, None))
         if placed is None or not placed.spans:
             return None
+        if number in self._eight_dots:
+            self.not_laid_out[number] = self._eight_dots[number]
+            return PagePlace(number, 0, 0)
         return PagePlace(number, *self._page_size.place(placed.line_of(cell)))
 
 
@@ -84,5 +95,5 @@ def printed(session: Session, its: Volume, rows: Sequence[Row]) -> Iterator[Prin
         number, text = row.paragraph, texts[row.paragraph]
         on_line = Span(row.start, row.stop)
         yield PrintedRow(
-            row, words_of(session, number, on_line, text, cells[number]), text
+            row, words_on_line(session, number, on_line, text, cells[number]), text
         )

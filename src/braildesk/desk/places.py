@@ -1,14 +1,21 @@
 """The place of words in a paragraph, the cells that they have, and the words that cells stand for."""
 
+import re
+from collections.abc import Sequence
 from dataclasses import dataclass
 from typing import Any
 
 from braildesk import Session
 from braildesk.desk import Problem
+from braildesk.desk.readings import answers
 from braildesk.protocol.codes import Code
-from braildesk.protocol.requests import CommandOnParagraph
+from braildesk.protocol.requests import CommandOnParagraph, Whence, Where
 from braildesk.refusals import refused
+from braildesk.text.cells import EMPTY_CELL
 from braildesk.text.spans import Span, find_spans
+
+_WORD = re.compile(r"\S+")
+_RUN = re.compile(f"[^{EMPTY_CELL}]+")
 
 
 class NoPlace(Problem):
@@ -107,3 +114,65 @@ def words_of(
         if place != last:
             return Span(start, place)
     return Span(start, len(text))
+
+
+@dataclass(frozen=True)
+class Character:
+    """A place of the print of a paragraph, which has some braille."""
+
+    paragraph: int
+    place: int
+    text: str
+    braille: str
+
+
+def cells_on_lines(session: Session, asked: Sequence[Character]) -> list[int]:
+    """A cell on the line of each of some characters.
+
+    It is the first that was made for the character; but a line may be broken at an empty cell among
+    those that were made as one, so it is the first of the character's word there.
+    """
+    cells = list(answers(session, (Where(its.paragraph, its.place) for its in asked)))
+    whences = (Whence(its.paragraph, cell) for its, cell in zip(asked, cells))
+    firsts = list(answers(session, whences))
+    return [
+        _of_word(session, its, first, cell)
+        for its, first, cell in zip(asked, firsts, cells)
+    ]
+
+
+def _of_word(session: Session, its: Character, first: int, cell: int) -> int:
+    """The first cell of the word of a character, by the first place and cell made as one with it."""
+    count = len(_WORD.findall(its.text, first, its.place + 1))
+    if not count or count == 1 and its.braille[cell] != EMPTY_CELL:
+        return cell
+    _, runs = _made_as_one(session, its.paragraph, cell, its.text, its.braille)
+    return runs[min(count, len(runs)) - 1].start if runs else cell
+
+
+def words_on_line(
+    session: Session, paragraph: int, cells: Span, text: str, braille: str
+) -> Span:
+    """The print that stands on the line of some cells, of which the first and the last have dots."""
+    start, stop = words_of(session, paragraph, cells, text, braille)
+    words, runs = _made_as_one(session, paragraph, cells.start, text, braille)
+    begun = sum(run.start <= cells.start for run in runs)
+    if words:
+        start = words[min(begun, len(words)) - 1].start
+    words, runs = _made_as_one(session, paragraph, cells.stop - 1, text, braille)
+    begun = sum(run.start < cells.stop for run in runs)
+    if begun < min(len(words), len(runs)):
+        stop = words[begun - 1].stop
+    return Span(start, stop)
+
+
+def _made_as_one(
+    session: Session, paragraph: int, cell: int, text: str, braille: str
+) -> tuple[list[Span], list[Span]]:
+    """The words, and the runs of cells with dots, of what was made into cells as one with a cell."""
+    its = words_of(session, paragraph, Span(cell, cell + 1), text, braille)
+    start, stop = session.output_position(paragraph, its.start), len(braille)
+    if its.stop < len(text):
+        stop = session.output_position(paragraph, its.stop)
+    words = [Span(*found.span()) for found in _WORD.finditer(text, *its)]
+    return words, [Span(*found.span()) for found in _RUN.finditer(braille, start, stop)]

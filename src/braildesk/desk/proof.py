@@ -8,6 +8,7 @@ from itertools import groupby
 
 from braildesk import Mark, Paragraph, Session, Style
 from braildesk.desk.layout import PageSize, Row, Volume, parted, volume
+from braildesk.desk.places import Character, cells_on_lines
 from braildesk.desk.readings import answers, prints
 from braildesk.protocol.requests import Marks, Whence, Where
 from braildesk.text.cells import EMPTY_CELL
@@ -117,12 +118,13 @@ def _on_rows(
         for each in its.layout.placed
         if each.spans
     }
-    asked = (
-        Where(number, min(mark.start, len(texts[number]) - 1))
-        for number in fronts
+    cells_of = its.brailles
+    asked = [
+        Character(number, min(mark.start, len(text) - 1), text, cells_of[number])
+        for number, text in ((number, texts[number]) for number in fronts)
         for mark in marks_of[number]
-    )
-    cells = answers(session, asked)
+    ]
+    cells = iter(cells_on_lines(session, asked))
     found = {
         number: [list[Mark]() for _ in starts] for number, starts in fronts.items()
     }

@@ -9,6 +9,7 @@ from collections.abc import Callable
 from contextlib import suppress
 from dataclasses import dataclass
 from pathlib import Path
+from typing import TYPE_CHECKING
 
 from braildesk.desk import Problem
 from braildesk.fenced import may_be_swapped
@@ -36,6 +37,9 @@ from braildesk.workshop import (
     set_list,
     sync_names,
 )
+
+if TYPE_CHECKING:
+    from braildesk.session import Session
 
 ANYONE, _OWN = 0o666, 0o600
 _OF_THE_SYSTEM = ("/dev/", "/proc/")
@@ -100,6 +104,17 @@ class Access(Value):
         Others may have put that in the place of the file while the process opened it.
         """
         return cls.of(file) if _is_read_by(process, file) else cls(_OWN)
+
+    @classmethod
+    def of_session(cls, session: "Session") -> "Access":
+        """That of the file of a session; its owner's alone where that isn't held beside the program.
+
+        Others may have put a link in its place for a moment, while the program opened it.
+        """
+        try:
+            return cls.read_by(session.pid, session.fileno())
+        except (OSError, ValueError):
+            return cls(_OWN)
 
 
 @dataclass(frozen=True, eq=False, repr=False)

@@ -172,6 +172,17 @@ def own_closed(path: str, in_folder: int = 0o700, of_file: int = 0o600) -> str |
     return None
 
 
+def own_barred(path: str) -> str | None:
+    """The first folder above that of a file which this user may not enter, if it is their own."""
+    above = list(PosixPath(real_path(path)).parents)[1:]
+    with suppress(OSError):
+        for each in reversed(above):
+            if not os.access(each, os.X_OK):
+                is_own = os.stat(each).st_uid == os.geteuid()
+                return str(each) if is_own else None
+    return None
+
+
 def is_left_out(path: str) -> bool:
     """Whether a book is this user's own, and its log is for the group of the book, in which they aren't."""
     path, own = real_path(path), (os.getegid(), *os.getgroups())

@@ -18,6 +18,7 @@ from braildesk.protocol.asked import (
     is_left_out,
     journal_path,
     log_path,
+    own_barred,
     own_closed,
     real_path,
 )
@@ -228,7 +229,9 @@ class _Fields:
                 f"The system lets nobody change {what}, whatever its permissions are: perhaps it was"
                 " made immutable. An administrator can take that away."
             )
-        closed = own_closed(named)
+        closed, barred = own_closed(named), own_barred(named)
+        if barred is not None:
+            return self._own_barred(barred)
         if closed is None:
             return "Ask who owns it for leave to read and write it and to write in its folder."
         if closed == real_path(named):
@@ -240,6 +243,8 @@ class _Fields:
         """The same of a file that is read alone."""
         named = self._asked.path if isinstance(self._asked, AskedOfFile) else ""
         closed, file = own_closed(named, 0o100, 0o400), real_path(named)
+        if (barred := own_barred(named)) is not None:
+            return self._own_barred(barred)
         if closed == file:
             return self._own_closed("The file", "read it", "u+r", closed)
         if closed is not None:
@@ -273,6 +278,11 @@ class _Fields:
                 " group. Ask an administrator to put you into it, and log in again."
             )
         return f"Ask who owns {self.log}, or an administrator, for leave to do so."
+
+    def _own_barred(self, path: str) -> str:
+        """The same of a folder above that of a file."""
+        what = f"The folder {shortened(path, len(path))}"
+        return self._own_closed(what, "enter it", "u+x", path)
 
     def _own_closed(self, what: str, do: str, mode: str, path: str) -> str:
         """That a file or a folder of one's own is kept from one by its mode, and how that is changed."""

@@ -56,6 +56,16 @@ def page_map(arguments: Namespace, session: Session) -> "PageMap | None":
     return PageMap(session, page_size)
 
 
+def not_laid_out(pages: "PageMap | None") -> list[str]:
+    """Why volumes of places that were shown aren't laid out, if it was said where these stand."""
+    if pages is None:
+        return []
+    # imported here, since it is seldom asked for
+    from scribe.words.pages import not_exported
+
+    return not_exported(pages.not_laid_out.items())
+
+
 def _within(ends: tuple[int, int]) -> Callable[[str], int]:
     """What reads a number that is between two ends, both of them allowed."""
     least, most = ends

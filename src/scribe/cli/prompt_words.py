@@ -20,6 +20,7 @@ from scribe.cli.parser import Asked, Parser, TextAsked, WordsRefused, as_asked
 from scribe.prompt.conversation import Conversation
 from scribe.words.find import instead
 from scribe.words.paragraph import quoted
+from scribe.words.status import Stop
 from scribe.words.typed import InvalidInput, number, words_of
 
 _OWN = {
@@ -136,6 +137,10 @@ def command_answered(talk: Conversation, file: Path, name: str, rest: str) -> No
         talk.bring_back()
         _say_refused(talk, parser, refused)
         return
+    except NotFound as missing:
+        if hint := _number_first(talk, arguments):
+            raise Stop(missing.sentence, more=[hint]) from missing
+        raise
     if isinstance(outcome, MarkOfBook):
         talk.hand = outcome
 
@@ -149,6 +154,17 @@ def _with_paragraph(talk: Conversation, parser: Parser, words: list[str]) -> lis
     if not takes_it or words[0].startswith("-") or words[0].isdecimal():
         return words
     return [str(hand.paragraph), *words]
+
+
+def _number_first(talk: Conversation, arguments: Namespace) -> str:
+    """How a number is changed in the paragraph of the mark in hand, if one was taken for a paragraph's."""
+    hand, old = talk.hand, getattr(arguments, "old", None)
+    if hand is None or hand.mark.resolved or old is None or arguments.new is not None:
+        return ""
+    return (
+        f"To change a number in paragraph {hand.paragraph}, begin with that of the paragraph: change"
+        f" {hand.paragraph} OLD NEW."
+    )
 
 
 def _complete(talk: Conversation, parser: Parser, arguments: Namespace) -> None:

@@ -14,6 +14,7 @@ from braildesk.text.spans import Span
 from scribe.screen.field import Field
 from scribe.screen.lines import (
     Area,
+    BOTH,
     HIGHLIGHTED,
     Line,
     MARKED,
@@ -62,9 +63,9 @@ class _Text:
         return _Text(text, self.place, self.highlighted, self.marked)
 
     def _look(self, place: int) -> str:
-        if self.highlighted.start <= place < self.highlighted.stop:
-            return HIGHLIGHTED
         is_marked = any(span.start <= place < span.stop for span in self.marked)
+        if self.highlighted.start <= place < self.highlighted.stop:
+            return BOTH if is_marked else HIGHLIGHTED
         return MARKED if is_marked else PLAIN
 
 

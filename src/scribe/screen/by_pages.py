@@ -61,11 +61,11 @@ def without_volume(state: State, action: ByPages) -> State:
 
 def _at_page(session: Session, state: State, laid: VolumeLines) -> State:
     """The page of the cursor's words, of a volume that is laid out."""
-    its, here = state.paragraph, state.highlighted
-    assert its is not None and here is not None
+    its = state.paragraph
+    assert its is not None
     is_cell = state.pane is Pane.CELLS
     says = f"{'cell' if is_cell else 'character'} {state.place + 1}"
-    sought = pagelook.Sought(its, here.cells.start, says)
+    sought = pagelook.Sought(its, lists.cell_of_cursor(session, state), says)
     found = pagelook.page_of(session, laid, sought)
     if found.line is None:
         return state.saying(found.title)

@@ -25,7 +25,9 @@ from braildesk.desk.correction import Correction, place_kept, smallest_correctio
 from braildesk.desk.draft import Aim, Draft, Unread
 from braildesk.desk.drafts import Drafts, LeftAt, NotKept
 from braildesk.desk.history import newest_corrector
+from braildesk.desk.identity import Identity, identity_of
 from braildesk.desk.import_note import ImportNote
+from braildesk.desk.kept_lines import reads_the_same
 from braildesk.desk.tables import NoSuchTable, table_request
 from braildesk.protocol.requests import Command
 from braildesk.session import held_file
@@ -126,6 +128,7 @@ from scribe.words.drafts import (
     is_in_book,
     not_kept,
     taken_back_in_part,
+    typed_before,
     typed_by_others,
     where_typed,
 )
@@ -183,6 +186,8 @@ class Desk:
         self.drafts = Drafts(path)
         self.tables = Tables()
         self._session: Session
+        #: By which the file of the book is known.
+        self._file: Identity | None = None
         self._unsent = Unsent(self.drafts)
         #: What keys typed last, whatever they did.
         self.typed_last = TypedLast(self.drafts)
@@ -510,7 +515,15 @@ class Desk:
             session.close()
             raise
         self._session = session
+        self._file = identity_of(self.path)
         self.tables.read(found)
+
+    def _opened_by_key(self, state: State) -> State:
+        """Opens the book again, or says that another file is at its path than when it was last open."""
+        is_another = identity_of(self.path) not in (None, self._file)
+        state = replace(state, is_displaced=state.is_displaced or is_another)
+        said = _OPEN_INSTEAD if state.is_displaced else _OPEN_AGAIN
+        return self._opened_anew(state, said)
 
     def _open_further(self) -> str:
         """Opens another session, in which what was kept before is at stake as well.
@@ -570,8 +583,10 @@ class Desk:
         if not self._unsent.waits(saved):
             # it couldn't be kept, and is asked about until it is answered
             self._unsent.put_by(saved)
-        moved = where_typed(self._unsent.typed_at)
-        return asked_about(self._session, state, saved, moved=moved)
+        numbers = [each.id for each in state.book]
+        same = reads_the_same(self._session, saved, state.version, numbers)
+        its = typed_before(same), where_typed(self._unsent.typed_at)
+        return asked_about(self._session, state, saved, *its)
 
     def _taken(self, step: Step, tell: whole_book.Report | None = None) -> State:
         """The state after a step: what it asks for is sent, and what is drawn is asked for.
@@ -962,7 +977,7 @@ class Desk:
 
     def _all_taken_back(self, state: State, report: Callable[[str], None]) -> State:
         """Takes back what a key did by many commands, as far as none is refused."""
-        deed = state.deeds[-1]
+        deed, before = state.deeds[-1], state
         said, done, count = deed.sentence, 0, len(deed.back)
         begun = state.version
         self._note_back(state, count)
@@ -993,7 +1008,10 @@ class Desk:
         if done < count:
             return self._drawn(state.failing(said))
         self._end_taken_back(deed)
-        return self._drawn(state.saying(said))
+        found = self._drawn(state.saying(said))
+        if deed.paragraph is None or found.is_lost:
+            return found
+        return self._drawn(_at_change(found, before))
 
     def _end_taken_back(self, deed: Deed) -> None:
         """Takes away what is noted of words that were being changed, all of which was taken back."""
@@ -1060,8 +1078,7 @@ class Desk:
             case GiveUp() | PutOff() | BringBack() | BringTyped() | PutBy():
                 return self._with_text(state, action)
             case OpenAgain():
-                said = _OPEN_INSTEAD if state.is_displaced else _OPEN_AGAIN
-                return self._opened_anew(state, said)
+                return self._opened_by_key(state)
 
     def _with_text(
         self, state: State, action: GiveUp | PutOff | BringBack | BringTyped | PutBy

@@ -26,6 +26,8 @@ HINT = (
     "? keys  q ends  Enter edits  o new  u undo  Tab cells  m mark  n next mark  / find"
     "  x export"
 )
+# of a struck paragraph, which isn't edited or marked
+_STRUCK_HINT = "? keys  q ends  s restores  o new  u undo  Tab cells  n next mark  / find  x export"
 PROMPTS = {
     Purpose.NOTE: "Note of the mark: ",
     Purpose.NUMBER: "Go to: ",
@@ -309,8 +311,10 @@ def _hint(state: State) -> str:
         return "Enter keeps it  Escape ends  F1 keys"
     if state.typed and not state.pages:
         return "Enter keeps it  Escape doesn't  F1 keys"
+    is_struck = state.paragraph is not None and state.paragraph.struck
     if state.anchor is not None and not state.pages:
-        return "m marks these cells  Left, Right choose more  Space gives them up"
+        front = "" if is_struck else "m marks these cells  "
+        return f"{front}Left, Right choose more  Space gives them up"
     if state.pages:
         match state.pages.offer:
             case ChangePlaces():
@@ -320,7 +324,7 @@ def _hint(state: State) -> str:
                 return f"{front}  ? keys  Escape goes back  Enter goes there"
         front = "Enter goes there  " if state.pages.targets else ""
         return f"{front}Escape goes back  Up, Down, Page Up, Page Down look further"
-    return HINT
+    return _STRUCK_HINT if is_struck else HINT
 
 
 def _tail(prompt: str, typed: Field, width: int) -> tuple[str, int]:

@@ -84,7 +84,7 @@ KEYS_OF_CHOICE = (
     "Home, End: to the front, to the end of the paragraph",
     "k, j: to the line before, after",
     "m: puts a mark on these cells, with a note",
-    "Space: gives the choice up",
+    "Space, Escape: give the choice up",
     "Tab: gives it up, and goes to the print",
 )
 KEYS_OF_PAGES = (*pager.KEYS, "Escape, Enter, q: go back")
@@ -137,6 +137,8 @@ def _step(state: State, key: str) -> Step:
         return Step(_looking(state, state.pages, key))
     if state.typed:
         return while_typing(state, state.typed, key)
+    if key == "escape" and state.anchor is not None:
+        return Step(replace(state, anchor=None))
     bound = KEYS.get(key)
     if bound is None:
         return Step(state.saying("That key does nothing here. ? shows the keys."))

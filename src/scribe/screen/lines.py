@@ -10,6 +10,8 @@ from braildesk.text.spans import Span
 from braildesk.text.wrapping import columns
 
 PLAIN, HIGHLIGHTED, MARKED, CHOSEN, HEAD = "", "highlighted", "marked", "chosen", "head"
+# what is highlighted and marked
+BOTH = "both"
 
 
 @dataclass(frozen=True)

@@ -4,10 +4,11 @@ from collections.abc import Callable, Iterator, Sequence
 from dataclasses import replace
 
 from braildesk import Paragraph, Session, Style
+from braildesk.desk.highlighting import cell_on_line
 from braildesk.desk.layout import sections
 from braildesk.desk.marks import MarkOfBook, all_marks
-from braildesk.desk.readings import answers, prints
-from braildesk.protocol.requests import Where
+from braildesk.desk.places import Character, cells_on_lines
+from braildesk.desk.readings import brailles, prints
 from braildesk.text.characters import visible
 from braildesk.text.excerpt import opening
 
@@ -53,6 +54,17 @@ class PagesInWords:
             for volume in self._volumes
             for its, lines in zip(volume.paragraphs, volume.lines)
         }
+        self._not_laid_out = {
+            its.id: volume
+            for volume in self._volumes
+            if volume.fault
+            for its in volume.paragraphs
+        }
+
+    def faults(self, places: Sequence[tuple[Paragraph, int]]) -> list[str]:
+        """Why volumes of some paragraphs aren't laid out, each once."""
+        its = (self._not_laid_out.get(each.id) for each, _ in places)
+        return list({volume.number: volume.fault for volume in its if volume}.values())
 
     def of(self, places: Sequence[tuple[Paragraph, int]]) -> list[str]:
         """In words: the page and line of a cell of each of some paragraphs."""
@@ -66,6 +78,8 @@ class PagesInWords:
         for its, cell in places:
             if its.struck:
                 yield _STRUCK
+            elif its.id in self._not_laid_out:
+                yield f"{self._front(self._not_laid_out[its.id])}not laid out"
             elif its.id not in found:
                 yield "on no page"
             else:
@@ -75,8 +89,10 @@ class PagesInWords:
 
     def _said(self, volume: VolumeLines, number: int) -> str:
         page, line = volume.page_size.place(number)
-        front = f"volume {volume.number}, " if len(self._volumes) > 1 else ""
-        return f"{front}page {page} line {line}"
+        return f"{self._front(volume)}page {page} line {line}"
+
+    def _front(self, volume: VolumeLines) -> str:
+        return f"volume {volume.number}, " if len(self._volumes) > 1 else ""
 
 
 def marks_list(session: Session, state: State, layouts: Layouts, tell: Report) -> State:
@@ -85,12 +101,19 @@ def marks_list(session: Session, state: State, layouts: Layouts, tell: Report) -
     if not marks:
         return state.saying("The book has no marks.")
     by_number = {each.id: each for each in state.book}
-    asked = [Where(each.paragraph, _start(each)) for each in marks if each.text]
-    cells = iter(list(answers(session, asked)))
+    marked = [by_number[number] for number in {e.paragraph for e in marks if e.text}]
+    read = dict(zip((each.id for each in marked), brailles(session, marked)))
+    asked = [
+        Character(each.paragraph, _start(each), each.text, read[each.paragraph])
+        for each in marks
+        if each.text
+    ]
+    cells = iter(cells_on_lines(session, asked))
     places = [
         (by_number[each.paragraph], next(cells) if each.text else 0) for each in marks
     ]
-    where = PagesInWords(session, volumes_of(state), layouts, tell).of(places)
+    numbers = PagesInWords(session, volumes_of(state), layouts, tell)
+    where = numbers.of(places)
     lines = tuple(
         mark_line(each.mark, each.text, each.paragraph, page)
         for each, page in zip(marks, where)
@@ -101,7 +124,7 @@ def marks_list(session: Session, state: State, layouts: Layouts, tell: Report) -
     opened = sum(not each.mark.resolved for each in marks)
     front = {0: "No open marks", 1: "1 open mark"}.get(opened, f"{opened:,} open marks")
     rest = f", {len(marks) - opened:,} resolved" if len(marks) > opened else ""
-    title = f"{front}{rest}."
+    title = " ".join([f"{front}{rest}.", *numbers.faults(places)])
     pages = Pages(title, lines, targets=targets)
     return replace(state, pages=_at_nearest(state, pages, opened or len(marks)))
 
@@ -119,7 +142,8 @@ def headings_list(
     if not found:
         return state.saying("The book has no headings. b makes one of a paragraph.")
     numbers = PagesInWords(session, volumes_of(state), layouts, tell)
-    where = numbers.of([(each, 0) for each in found])
+    places = [(each, 0) for each in found]
+    where = numbers.of(places)
     texts = list(prints(session, found))
     lines = tuple(
         f"{opening(visible(text), _WORDS)}, {page}, paragraph {its.id}"
@@ -127,7 +151,8 @@ def headings_list(
     )
     targets = tuple(Target(each.id) for each in found)
     count = "1 heading" if len(found) == 1 else f"{len(found):,} headings"
-    return at_chosen(state, Pages(f"{count}.", lines, targets=targets))
+    title = " ".join([f"{count}.", *numbers.faults(places)])
+    return at_chosen(state, Pages(title, lines, targets=targets))
 
 
 def at_chosen(state: State, pages: Pages) -> State:
@@ -175,10 +200,19 @@ def at_target(state: State, target: Target) -> State:
 
 def page_said(session: Session, state: State, laid: VolumeLines) -> str:
     """The page and line of the cursor's words in a volume that is laid out, as a sentence."""
-    its, here = state.paragraph, state.highlighted
-    assert its is not None and here is not None
-    volumes = len(volumes_of(state))
-    return pagelook.place_said(session, laid, its, here.cells.start, volumes)
+    its, volumes = state.paragraph, len(volumes_of(state))
+    assert its is not None
+    cell = cell_of_cursor(session, state)
+    return pagelook.place_said(session, laid, its, cell, volumes)
+
+
+def cell_of_cursor(session: Session, state: State) -> int:
+    """The cell of the cursor, or one on the line of its character."""
+    reading, here = state.reading, state.highlighted
+    assert reading is not None and here is not None
+    if state.pane is Pane.CELLS:
+        return here.cells.start
+    return cell_on_line(session, reading, here)
 
 
 def at_page(session: Session, state: State, action: ToPage, laid: VolumeLines) -> State:

@@ -44,7 +44,7 @@ from scribe.screen.desk import Desk, preview_of, with_preview
 from scribe.screen.drawing import Drawing, draw
 from scribe.screen.keyboard import Keyboard, Pasted, Stroke
 from scribe.screen.keys import is_obeyed
-from scribe.screen.lines import CHOSEN, HEAD, HIGHLIGHTED, MARKED, PLAIN
+from scribe.screen.lines import BOTH, CHOSEN, HEAD, HIGHLIGHTED, MARKED, PLAIN
 from scribe.screen.state import Size, State, lines_typed, saying_first
 from scribe.screen.unread import rest_of, unread_of
 from scribe.screen.waiting import not_obeyed
@@ -58,13 +58,14 @@ _STYLE = Style(
     [
         (HIGHLIGHTED, "reverse"),
         (MARKED, "underline"),
+        (BOTH, "reverse underline"),
         (CHOSEN, "bold"),
         (HEAD, "reverse"),
     ]
 )
 _CLASSES = {
     PLAIN: "",
-    **{each: f"class:{each}" for each in (HIGHLIGHTED, MARKED, CHOSEN, HEAD)},
+    **{each: f"class:{each}" for each in (HIGHLIGHTED, MARKED, BOTH, CHOSEN, HEAD)},
 }
 # how often what is typed is kept
 _SAVE_SECONDS = 1.0

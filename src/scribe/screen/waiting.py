@@ -175,7 +175,7 @@ def asked_about(
     session: Session,
     state: State,
     saved: Draft,
-    became: str = "was typed and isn't in the book",
+    became: str,
     moved: str = "",
 ) -> State:
     """Asks whether a text that waits is taken up, at its paragraph."""

@@ -32,6 +32,7 @@ from scribe.window.desk import Desk
 from scribe.window.dialogs import choice
 from scribe.window.dragged import Dragged
 from scribe.window.held import Held
+from scribe.window.typed_on import taking_at_sentence
 from scribe.window.window import title_of
 from scribe.words.links import followed, name_of
 from scribe.words.status import Interrupted
@@ -43,7 +44,7 @@ _NO_SCREEN = (
     " edit shows a book in a terminal."
 )
 _KEPT = "What was reported as kept is in the book."
-_SCREEN_GONE = f"The screen is gone: its X server or its compositor ended. {_KEPT}"
+_SCREEN_GONE = "The screen is gone: its X server or its compositor ended."
 _SIGNALS = (
     signal.SIGHUP,
     signal.SIGTERM,
@@ -119,7 +120,8 @@ class Application:
         """What Qt says goes on to standard error, unless it ends the process after it."""
         if self._is_begun and _GONE.match(text or ""):
             waits = self._desk.waits_at_once()
-            self._leave(f"{_SCREEN_GONE} {waits}".rstrip())
+            kept = self._desk.end_at_once() or _KEPT
+            self._leave(f"{_SCREEN_GONE} {kept} {waits}".rstrip())
         line = qFormatLogMessage(kind, where, text or "")
         with suppress(OSError):
             os.write(2, f"{line}\n".encode(errors="backslashreplace"))
@@ -140,10 +142,16 @@ class Application:
             raise
 
     def tell(self, sentence: str) -> None:
-        """Shows a sentence in the place of a book that isn't open, until it is closed."""
-        with _ended_by_signals():
-            title = title_of(self._desk.path.name)
-            choice(self._desk.window, title, visible(sentence), ["&Close"])
+        """Shows a sentence in the place of a book that isn't open, until it is closed.
+
+        A text that is typed on there is given up; if it can't be kept it is shown in the end.
+        """
+        desk, typed = self._desk, [""]
+        with _ended_by_signals(), taking_at_sentence(typed.append):
+            title = title_of(desk.path.name)
+            choice(desk.window, title, visible(sentence), ["&Close"])
+        if typed[-1] and (unkept := desk.put_by_unopened(typed[-1])):
+            self.tell(unkept)
 
     def run(self) -> None:
         """Shows the book until its window is closed; raises what ends it otherwise."""
@@ -191,7 +199,7 @@ class Application:
     def _close(self) -> None:
         desk = self._desk
         desk.take_begun_word()
-        desk.keep_draft(desk.draft())
+        desk.keep_anew()
         try:
             desk.close()
         except Lost as lost:

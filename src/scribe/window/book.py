@@ -19,11 +19,19 @@ from braildesk.desk.draft import Aim, Draft
 from braildesk.desk.find import alike
 from braildesk.desk.highlighting import (
     Highlighted,
+    cell_on_line,
     cells_of_marks,
     highlighted_by_cell,
     highlighted_by_character,
 )
-from braildesk.desk.kept_lines import lines_kept, lines_left, mark_kept
+from braildesk.desk.history import newest_correction
+from braildesk.desk.identity import Identity, identity_of
+from braildesk.desk.kept_lines import (
+    lines_kept,
+    lines_left,
+    mark_kept,
+    reads_the_same,
+)
 from braildesk.desk.layout import PageSize
 from braildesk.desk.places import cells_of, words_of
 from braildesk.desk.readings import ParagraphReading, answers
@@ -144,10 +152,12 @@ class OpenBook:
         self._session: Session
         self._was_open = False
         self._deeds: tuple[Deed, ...] = ()
-        # what was last sent takes back the last deed, or resolves a mark
+        # what was last sent takes back the last deed; or it resolves a mark, or takes back a correction
         self._is_taking_back = False
-        self._resolving: Deed | None = None
+        self._under_way: Deed | None = None
         self._is_displaced = False
+        # by which the file is known that was last open
+        self._file: Identity | None = None
         # the paragraphs as they were listed last: a long book takes a while to list
         self._known: tuple[Paragraph, ...] = ()
         self._laid: pagelook.VolumeLines | None = None
@@ -175,7 +185,8 @@ class OpenBook:
     @property
     def is_displaced(self) -> bool:
         """Whether another file may stand in the place of the book."""
-        return self._is_displaced
+        now = identity_of(self.path)
+        return self._is_displaced or now not in (None, self._file)
 
     @property
     def pid(self) -> int:
@@ -197,9 +208,9 @@ class OpenBook:
 
     def opened_again(self) -> Contents:
         """Opens the book after its session ended; only what nobody else changed is taken back."""
-        before = self._session.last_version
+        before, is_displaced = self._session.last_version, self.is_displaced
         found = self.opened()
-        if found.version != before or self._is_displaced:
+        if found.version != before or is_displaced:
             self._deeds = ()
         self._is_displaced = False
         return found
@@ -238,7 +249,8 @@ class OpenBook:
         """
         if command is None:
             return ()
-        done = self._resolving if isinstance(command, requests.Resolve) else None
+        kinds = requests.Resolve, requests.Undo
+        done = self._under_way if isinstance(command, kinds) else None
         if not self._is_taking_back:
             done = done or deed_found(self._session, command, before)
             return (*self._deeds, done) if done else self._deeds
@@ -297,6 +309,14 @@ class OpenBook:
         """The characters that belong to a cell."""
         cell = max(0, min(cell, len(reading.its.braille) - 1))
         return highlighted_by_cell(self._session, reading.its, cell)
+
+    def cell_on_line(
+        self, reading: ChosenParagraph, its: Highlighted, by_cell: bool
+    ) -> int:
+        """The cell at the caret, or one on the line of its character."""
+        if by_cell:
+            return its.cells.start
+        return cell_on_line(self._session, reading.its, its)
 
     def words_of(self, reading: ChosenParagraph, cells: Span) -> tuple[Span, Span]:
         """Where the words stand that cells stand for, and all cells of these."""
@@ -745,6 +765,11 @@ class OpenBook:
         is_there = composed(self._session.print_of(number)) == text
         return f"in paragraph {number}" if is_there else ""
 
+    def reads_the_same(self, contents: Contents, draft: Draft) -> int | None:
+        """The paragraph that reads as a text that waits, if the book got one since."""
+        numbers = [each.id for each in contents.paragraphs]
+        return reads_the_same(self._session, draft, contents.version, numbers)
+
     def _gather(self, before: tuple[Deed, ...], what: str) -> None:
         """Makes one deed, in words, of those since then."""
         deeds_since = reversed(self._deeds[len(before) :])
@@ -753,7 +778,7 @@ class OpenBook:
             self._deeds = (*before, Deed(what, backs))
 
     def _with(self, session: Session, held: HeldFile | None = None) -> Contents:
-        self._session = session
+        self._session, self._file = session, identity_of(self.path)
         if self._was_open:
             # what was kept before is at stake in this session as well
             session.guard(held)
@@ -767,14 +792,26 @@ class OpenBook:
         if isinstance(command, requests.OfParagraph):
             if not any(each.id == command.paragraph for each in before):
                 before = self.contents().paragraphs
-        self._is_taking_back, self._resolving = False, deed
-        answer = self._ask(command)
         if isinstance(command, requests.Undo):
-            self._deeds = deeds.undone(self._deeds, command)
+            deed = self._undone(command.paragraph)
+        self._is_taking_back, self._under_way = False, deed
+        answer = self._ask(command)
         noted = deed or deeds.deed_of(command, answer, before)
         if noted:
             self._deeds = (*self._deeds, noted)
         return answer
+
+    def _undone(self, number: int) -> Deed | None:
+        """That the newest correction of a paragraph is taken back by itself; none if it has none."""
+        its = newest_correction(self._session.history_of(number))
+        if its is None:
+            return None
+        words = number, its.start, its.count, its.text
+        again = requests.Correct(*words)
+        if its.who is not None:
+            again = requests.CorrectBy(*words, who=its.who)
+        what = f"correction {its.seq} of paragraph {number} was taken back"
+        return Deed(what, (again,), "It was made anew.", number)
 
     def _ask(self, command: Command[Any]) -> Any:
         session = self._session

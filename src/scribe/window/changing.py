@@ -67,7 +67,7 @@ class Changing:
             desk.window,
             "Change words",
             "Words to change:",
-            old or finding.sought,
+            old or finding.words,
             lambda typed: self._keep(typed, new),
         )
         if not sought:
@@ -130,7 +130,7 @@ class Changing:
         desk = self.desk
         desk.settled()
         old, new = self._words()
-        first = (old or self._finding.sought, new)
+        first = (old or self._finding.words, new)
         answer = dialogs.fields(
             *(desk.window, _TITLE, _ASKED, first, _CHECKS),
             lambda typed: self._keep(*typed),

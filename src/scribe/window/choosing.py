@@ -18,7 +18,7 @@ def chosen_book() -> Path | None:
     """Asks which book is opened, or makes a new one; none where that is given up."""
     asked = "Which book shall be opened?"
     answers = ("&Open a book…", "&New book…", "&Cancel")
-    answer = dialogs.choice(None, _TITLE, asked, answers)
+    answer = dialogs.ask(None, _TITLE, asked, answers, _kept_nowhere)
     if answer == 0:
         return dialogs.file_to_read(None, "Open a book", Path("book"), _BOOKS)
     return _new_book() if answer == 1 else None
@@ -40,4 +40,8 @@ def _new_book() -> Path | None:
             return first
         except (DeskError, Stop) as failed:
             said = visible(failed.sentence)
-            dialogs.choice(None, _TITLE, said, ("&Close",))
+            dialogs.offer(None, _TITLE, said, ("&Close",), _kept_nowhere)
+
+
+def _kept_nowhere(typed: str) -> None:
+    """What is typed on where a book is chosen is for none, and is no answer."""

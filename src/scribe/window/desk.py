@@ -82,14 +82,18 @@ Result = TypeVar("Result")
 NO_PARAGRAPH = "The book has no paragraph yet. Ctrl+Enter begins one."
 STRUCK = "is struck. Ctrl+D restores it, so that it can be changed."
 CLOSED = "The book is closed: Open the book again, in the menu Book, opens it."
+_ON_NO_PAGE = "The new paragraph isn't in the book yet, so it is on no page."
 _GONE = "The book is closed: Its file isn't at “{path}” any more. {then}"
 _THEN = "Open the book again, in the menu Book, opens it once it is there again."
 _LAST_IS_IN_IT = "What was typed last is in it."
 _LAST_WAS_IN_IT = "What was typed last was in it."
 _SAVED = "All of the book is in “{saved}”, which scribe window opens."
 _WAS_SAVED = "All of the book was in “{saved}”, where no file is any more."
+_IS_BACK = "A file is at “{path}” again."
 _NOT_PASTED = "Nothing was pasted: a text goes into the print. F2 goes there."
 _NOT_TYPED = "Nothing is typed here: a text goes into the print. F2 goes there."
+_NOTHING = "Nothing was typed."
+_TYPED_IS_BACK = "Taken back: what was typed last."
 _NOT_SHOWN = "has a character that a window can't show. scribe edit changes it."
 _ONLY_HERE = (
     "What is typed can't be kept elsewhere: it is lost if the window is closed."
@@ -102,6 +106,8 @@ _WAITS = "What was typed and isn't in the book is kept, and is offered when it i
 _UNKEPT = "This was typed, and could not be kept:"
 # so many letters are no text where letters are keys
 _FEW = 3
+# for so long at most the session is ended once nothing can be shown
+_ENDING_SECONDS = 60.0
 # how often it is kept where the window is, if that is another place by then
 _REST_MILLISECONDS = 1_000
 
@@ -153,6 +159,10 @@ class Desk:
     _said_waiting = ""
     # whether what is being done, or was done last, said something
     _is_said = False
+    # the name of what is being done, or was done last, if it is of the menus
+    _doing = ""
+    # what was kept before something else is done, with what becomes of which it is said
+    _kept_first = ""
     # the print as it was before a dialog was opened, with its caret
     _beneath = "", 0, 0
     # others than hands type where nothing can be typed
@@ -172,8 +182,8 @@ class Desk:
     _unheld = ""
     # what the message says of what is typed, which is so until that changes
     _of_typed = ""
-    # what was said then of where all of a book that is gone was saved
-    _said_saved = ""
+    # what was said then of where all of a book that is gone was saved, and whether no file was at its path
+    _said_saved, _was_away = "", False
     # something is asked for which no key has asked, and the text that is typed there
     _is_offering = False
     _at_offer: Unread | None = None
@@ -251,6 +261,7 @@ class Desk:
             field.typed_on.connect(self._refuse_where_read)
         # Enter is where the print is typed, as on the screen
         window.table.activated.connect(lambda _: self.act("to_print"))
+        window.table.entered_empty.connect(self._enter_empty)
         window.covered.connect(self._cover)
         window.pasted.connect(lambda: self.refuse(_NOT_PASTED))
         window.cells.entered.connect(lambda: self.act("to_print"))
@@ -343,28 +354,41 @@ class Desk:
 
     def act(self, name: str) -> None:
         """Does what a menu or a key asks for."""
-        self.acting(self.acts[name])
+        self.acting(self.acts[name], name)
 
     @property
     def is_acting(self) -> bool:
         """Whether something is being done, so that nothing else is."""
         return self._is_acting
 
-    def acting(self, act: Callable[[], None]) -> None:
+    def acting(self, act: Callable[[], None], name: str = "") -> None:
         """Does something, unless something else is being done."""
         if self._is_acting:
             return
         self.take_begun_word()
-        self._is_acting, self._is_said = True, False
+        self._is_acting, self._is_said, self._doing = True, False, name
+        self._kept_first = ""
         with self.window.spoken.of_changes():
             try:
                 with self.failures():
                     act()
+                self._say_kept_again()
             finally:
-                self._is_acting = False
+                self._is_acting, self._kept_first = False, ""
                 if self._watched is not None:
                     self._watched.setEnabled(True)
             self.say_meanwhile()
+
+    def _say_kept_again(self) -> None:
+        """Says what was kept where a part took the focus after that, and nothing else was said."""
+        kept = self._kept_first
+        if kept and self.window.spoken.is_moved and kept == self.window.message.text:
+            self.window.tell(kept, is_besides=True)
+
+    def _after_kept(self, sentence: str) -> str:
+        """What is said of what is being done, after what was kept first."""
+        kept = self._kept_first if self._is_acting else ""
+        return sentence if kept in sentence else f"{kept} {sentence}".rstrip()
 
     def say_meanwhile(self) -> None:
         """Says what was given up since something else was shown or asked.
@@ -452,12 +476,24 @@ class Desk:
     def say(self, sentence: str) -> None:
         """Has something stand in the message, where it is heard if the message has the focus."""
         self._is_said = True
-        self._have_stand(sentence)
+        self._have_stand(self._after_kept(sentence))
 
     def _have_stand(self, sentence: str, is_besides: bool = False) -> None:
+        before = self.window.message.text
         self.window.tell(visible(sentence), is_besides)
         if self.window.focusWidget() is self.window.message:
+            self._have_news_read(before)
+
+    def _have_news_read(self, before: str) -> None:
+        """Has the message be read, unless it takes the focus, or only just took it, and is read by that."""
+        message = self.window.message
+        if not message.hasFocus() or self.window.spoken.is_just_moved:
+            QTimer.singleShot(0, self._have_all_read)
+        elif self._doing != "take_back":
             self._have_read()
+        elif message.text == before:
+            # after Ctrl+Z Orca reads what comes in by itself, and says of what is selected only that it is
+            message.setPlainText(before)
 
     def _have_read(self) -> None:
         """Has the message be read anew, of which a screen reader reads only what is selected.
@@ -492,8 +528,9 @@ class Desk:
 
     def refuse(self, sentence: str) -> None:
         """Has something stand in the message, which takes the focus, so that it is heard."""
-        message = self.window.message
-        if visible(sentence) == message.text:
+        message, before = self.window.message, self.window.message.text
+        sentence = self._after_kept(sentence)
+        if visible(sentence) == before:
             sentence = f"Again: {sentence}"
         focused = self.window.focusWidget()
         if focused is not None and focused is not message:
@@ -503,7 +540,7 @@ class Desk:
         message.setFocus()
         self.window.tell(visible(sentence))
         if focused is message:
-            self._have_read()
+            self._have_news_read(before)
         else:
             message.put_caret(0)
             QTimer.singleShot(0, self._have_all_read)
@@ -541,8 +578,18 @@ class Desk:
         elif not typed.isspace():
             # where nothing can be typed in the print either, it would be of no use to go there
             said = self._nothing_typed if field.isReadOnly() else _NOT_TYPED
-            if not self.window.message.text.endswith(visible(said)):
-                self.say_too(said)
+            shown = self.window.message.text
+            if not shown.endswith(visible(said)):
+                # why is said once, also where the message has it
+                is_why = shown.endswith(visible(said.removesuffix(f" {_NOTHING}")))
+                self.say_too(_NOTHING if is_why else said)
+
+    def _enter_empty(self) -> None:
+        """Goes to the paragraph that is typed in a book without one, or says that there is none."""
+        if self.new is not None:
+            self.act("to_print")
+        else:
+            self.refuse(self.no_paragraph)
 
     def _refuse_where_read(self, typed: str) -> None:
         """Says that nothing is typed where something is only read; Space goes on there."""
@@ -556,7 +603,7 @@ class Desk:
     @property
     def _nothing_typed(self) -> str:
         """That nothing was typed in the print, and why."""
-        return f"{self._why_not_typed} Nothing was typed."
+        return f"{self._why_not_typed} {_NOTHING}"
 
     @property
     def _why_not_typed(self) -> str:
@@ -583,13 +630,19 @@ class Desk:
         return _GONE.format(path=self.path, then=then)
 
     def so_now(self, said: str) -> str:
-        """What was said of a book that is closed, as it is so now: the file with all of it may be gone."""
+        """What was said of a book that is closed, as it is so now.
+
+        The file with all of it may be gone, and one may be at its path again.
+        """
         saved, kept = self._saved, self._said_saved
-        if saved is None or not is_gone(saved):
+        if saved is None:
             return said
-        was = _WAS_SAVED.format(saved=saved)
-        said = said.replace(kept, was).replace(visible(kept), visible(was))
-        return said.replace(_LAST_IS_IN_IT, _LAST_WAS_IN_IT)
+        if is_gone(saved):
+            was = _WAS_SAVED.format(saved=saved)
+            said = said.replace(kept, was).replace(visible(kept), visible(was))
+            said = said.replace(_LAST_IS_IN_IT, _LAST_WAS_IN_IT)
+        is_back = said and self._was_away and not is_gone(self.path)
+        return f"{said} {_IS_BACK.format(path=self.path)}" if is_back else said
 
     # what is chosen and shown
 
@@ -618,8 +671,12 @@ class Desk:
 
     @property
     def cell(self) -> int | None:
-        """The first of the cells that are lit; none where none is."""
-        return self._light.cells.start if self._light is not None else None
+        """The cell at the caret, or one on the line of its character; none where none is lit."""
+        reading, light = self.reading, self._light
+        if reading is None or light is None:
+            return None
+        seek = self.book.cell_on_line
+        return self.asked(partial(seek, reading, light, self.is_in_cells))
 
     def show(self, contents: Contents, number: int | None) -> None:
         """Shows the book as it is now, with a paragraph chosen, of which something changed."""
@@ -729,6 +786,9 @@ class Desk:
         window.print.describe(title(reading.its.paragraph, False) if reading else "")
         text = reading.its.text if reading else ""
         marks = reading.its.marks if reading else ()
+        cells = self.shown(reading.its.braille if reading else "")
+        # in other ones no caret stands yet
+        is_by_print = cells != window.cells.text
         self._is_showing = True
         try:
             window.print.show_text(text)
@@ -736,11 +796,11 @@ class Desk:
                 # Qt ends a line at two characters that no text should have
                 window.print.setReadOnly(True)
             window.print.put_caret(min(place, len(text)))
-            window.cells.show_text(self.shown(reading.its.braille if reading else ""))
+            window.cells.show_text(cells)
             window.marks.show_text("\n".join(mark_line(mark, text) for mark in marks))
         finally:
             self._is_showing = False
-        self.link()
+        self.link(is_by_print=is_by_print)
 
     @property
     def _head(self) -> str:
@@ -753,12 +813,13 @@ class Desk:
 
     def show_cells(self) -> None:
         """Shows the cells of the paragraph, or of what is typed, as they are shown now."""
-        if self.new is None and not self.is_typed():
-            self.show_reading(self.window.print.place)
-            return
+        cells, text = self.window.cells, self.shown(self.braille)
+        place = cells.place
         self._is_showing = True
-        self.window.cells.show_text(self.shown(self.braille))
+        cells.show_text(text)
+        cells.put_caret(place)
         self._is_showing = False
+        self.link()
 
     @property
     def braille(self) -> str:
@@ -845,17 +906,18 @@ class Desk:
         if not self._is_showing and self.is_in_cells:
             self.link(True)
 
-    def link(self, is_moved: bool = False) -> None:
+    def link(self, is_moved: bool = False, is_by_print: bool = False) -> None:
         """Has the caret of the other text stand where this one's does, and says where that is.
 
-        A caret that was moved off the mark in hand lets go of it.
+        This one is that with the focus, or the print. A caret that was moved off the mark in hand lets
+        go of it.
         """
         reading, window = self.reading, self.window
         if self.is_closed or reading is None or self.new or self.is_typed():
             self._light = None
             self._unlinked()
             return
-        by_cell = self.is_in_cells
+        by_cell = self.is_in_cells and not is_by_print
         place = window.cells.place if by_cell else window.print.place
         seek = self.book.by_cell if by_cell else self.book.by_character
         with self.failures():
@@ -951,19 +1013,30 @@ class Desk:
     # the page of the caret
 
     def update_page(self, is_asked: bool) -> None:
-        """Has the page of the caret shown, where pages are shown."""
+        """Has the page of the caret shown, where pages are shown.
+
+        If it is asked for, that is shown too while something is typed, or why there is none.
+        """
         reading, light = self.reading, self._light
-        if not self.window.dock.isVisible() or reading is None or light is None:
+        if not self.window.dock.isVisible():
+            return
+        if is_asked and light is None:
+            if why := self.why_no_page:
+                self._show_why(why)
+                return
+            light = self._light_in_book()
+        if reading is None or light is None:
             return
         its = reading.its.paragraph
         says = f"character {light.words.start + 1}"
-        sought = pagelook.Sought(its, light.cells.start, says)
+        cell = partial(self.book.cell_on_line, reading, light, self.is_in_cells)
         contents, page_size = self.contents, self.page_size
 
         def look() -> pagelook.Page | None:
             # another book by then has its page asked for by itself
             if self.book.session.last_version != contents.version:
                 return None
+            sought = pagelook.Sought(its, cell(), says)
             return self.book.page(contents, page_size, sought, is_asked)
 
         def take(found: "Future[pagelook.Page | None]") -> None:
@@ -972,10 +1045,32 @@ class Desk:
                 if page is None:
                     return
                 lines = [self.shown_page(line) for line in page.lines]
-                title = wrap(page.title, max(20, page_size.width * 5 // 6))
-                self.window.show_page(title, lines, page.line)
+                self.window.show_page(self._wrapped(page.title), lines, page.line)
 
         self.work.latest("page", look, take)
+
+    @property
+    def why_no_page(self) -> str:
+        """Why there is no page of the caret, or nothing."""
+        if self.is_closed or self.new is None and self.reading is None:
+            return self.no_paragraph
+        return _ON_NO_PAGE if self.new is not None else ""
+
+    def _show_why(self, why: str) -> None:
+        """Has it stand in place of a page why there is none, also if one is being laid out."""
+        show = lambda _: self.window.show_page(self._wrapped(why), (), None)
+        self.work.latest("page", lambda: None, show)
+
+    def _wrapped(self, title: str) -> list[str]:
+        """What stands above a page, in lines."""
+        return wrap(title, max(20, self.page_size.width * 5 // 6))
+
+    def _light_in_book(self) -> Highlighted | None:
+        """What the caret would stand on in the print as the book has it."""
+        if self.reading is None:
+            return None
+        place = self.as_before(self.window.print.place)
+        return self.asked(partial(self.book.by_character, self.reading, place))
 
     def shown_page(self, line: str) -> str:
         """A line of a page, which is in Braille ASCII, as cells are shown."""
@@ -1095,6 +1190,12 @@ class Desk:
         self.have_wait(None)
         return fault or "Ctrl+B brings it back."
 
+    def put_by_unopened(self, text: str) -> str:
+        """Gives up a text that was typed where the book can't be opened, and says so if it isn't kept."""
+        self.unsent.put_by(Draft(Aim.AFTER, None, None, "", text))
+        unkept = " ".join(self.unsent.unkept).replace("\n", " ")
+        return f"{_UNKEPT} {unkept}" if unkept else ""
+
     def is_waiting(self) -> bool:
         """Whether what is typed is kept as what waits, if anything is typed."""
         draft = self.draft()
@@ -1102,11 +1203,15 @@ class Desk:
         self.wait_for_draft()
         return draft is None or self.unsent.waiting == draft
 
+    def keep_anew(self) -> None:
+        """Keeps what is typed, and what waits, also where others took away what that was kept in."""
+        self.aside.post(self.unsent.see_kept, lambda future: None)
+        self.keep_draft(self.draft())
+
     def waits_at_once(self) -> str:
         """Keeps what is typed as what waits, once nothing can be shown, and says so if anything is."""
         draft, held = self.draft(), self._text_elsewhere()
-        self.aside.post(self.unsent.see_kept, lambda future: None)
-        self.keep_draft(draft)
+        self.keep_anew()
         self._keep_typed_last()
         self._keep_taken_back()
         # nothing more is done beside the window, which isn't drawn while that is waited for
@@ -1122,6 +1227,25 @@ class Desk:
             return f"{_UNKEPT} {visible(' '.join(unkept))}"
         waits = draft or held or (self._is_offering and self.unsent.waiting)
         return _WAITS if waits else ""
+
+    def end_at_once(self) -> str:
+        """Ends the session once nothing can be shown, and says what is so of a book that was lost."""
+        self.is_ending = True
+        said = [self.so_now(self.loss)]
+
+        def end() -> None:
+            with suppress(Lost, Interrupted):
+                self.book.close()
+            session = self.book.session
+            if session.lost is not None:
+                self._follow(session.lost)
+                said.append(session.lost.sentence)
+            elif session.strayed:
+                said.append(f"{session.strayed} Nothing was changed in it here.")
+
+        if not self.loss:
+            self.work.at_once(end, _ENDING_SECONDS)
+        return " ".join(filter(None, said))
 
     def _text_held(self) -> Unread | None:
         """The text that was typed while the window waits: lines after a new paragraph, or one by itself."""
@@ -1389,9 +1513,12 @@ class Desk:
 
     def take_typed_back(self) -> None:
         """Takes back what was typed last. A text that was put in isn't lost by that."""
-        before = self.draft()
-        self.window.print.undo()
+        before, field = self.draft(), self.window.print
+        field.undo()
         if before is None or self.draft() is not None or before.text != self._put_in:
+            if self.window.focusWidget() is not field:
+                # else a screen reader says what goes from the print
+                self.say(_TYPED_IS_BACK)
             return
         said = self.given_up(before)
         self._said_of_put_in = visible(said)
@@ -1477,6 +1604,7 @@ class Desk:
             self.show_reading(place)
         else:
             self.show_done(done)
+            self._kept_first = self.window.message.text
 
     def settled(self) -> int:
         """The number of the chosen paragraph, once what was typed is kept."""
@@ -1534,6 +1662,9 @@ class Desk:
         window.print.describe(new.title)
         window.print_label.setText(new.title)
         window.print.setReadOnly(False)
+        if not text:
+            # a screen reader that hears of the caret first says nothing of the print
+            window.print.setFocus()
         self._is_showing = True
         try:
             window.print.show_text("")
@@ -1543,8 +1674,8 @@ class Desk:
             self._is_showing = False
         if text:
             self.put_in(text)
-        # a screen reader may read once more what comes in after that
-        window.print.setFocus()
+            # a screen reader may read once more what comes in after that
+            window.print.setFocus()
         self._unlinked()
 
     def leave_new(self) -> None:
@@ -1666,6 +1797,7 @@ class Desk:
         """Has what isn't in the book be offered where all of a book that is gone was saved."""
         if isinstance(lost, Displaced) and lost.saved is not None:
             self._saved, self._said_saved = Path(lost.saved), lost.kept
+            self._was_away = is_gone(self.path)
             self.drafts.copy_to(self._saved)
 
     def taken_again(self, contents: Contents) -> str:

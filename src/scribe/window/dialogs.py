@@ -4,6 +4,7 @@ import time
 from collections.abc import Callable, Iterator, Sequence
 from concurrent.futures import Future
 from contextlib import contextmanager
+from functools import partial
 from pathlib import Path
 from typing import TypeVar
 
@@ -100,7 +101,7 @@ def choice(
 
 
 def offer(
-    over: QWidget,
+    over: QWidget | None,
     title: str,
     sentence: str,
     answers: Sequence[str],
@@ -118,7 +119,7 @@ def offer(
 
 
 def ask(
-    over: QWidget,
+    over: QWidget | None,
     title: str,
     sentence: str,
     answers: Sequence[str],
@@ -184,9 +185,19 @@ def _line(
             changed(_in_a_line(line))
 
     dialog.textValueChanged.connect(typed)
-    take_what_came(dialog)
+    _take_until_answered(dialog)
     with _back_to(over, dialog):
         return _in_a_line(dialog.textValue()) if dialog.exec() else None
+
+
+def _take_until_answered(dialog: QDialog) -> None:
+    """Has lines of a dialog take what came before it was there, and nothing once it is answered.
+
+    Letters that come after Enter, before it is gone, are no part of the answer.
+    """
+    take_what_came(dialog)
+    for line in within(dialog, QLineEdit):
+        dialog.accepted.connect(partial(line.setReadOnly, True))
 
 
 def _in_a_line(typed: str) -> str:
@@ -281,7 +292,7 @@ def fields(
     # at once, since what came before is typed before the dialog has the keyboard
     lines[0].setFocus()
     fit(dialog, WIDTH)
-    take_what_came(dialog)
+    _take_until_answered(dialog)
     with _back_to(over, dialog):
         is_given = dialog.exec()
     if not is_given:
@@ -355,7 +366,7 @@ def folder(over: QWidget, title: str, asked: str, first: str) -> str | None:
     # as above
     line.setFocus()
     fit(dialog, _FOLDER_WIDTH)
-    take_what_came(dialog)
+    _take_until_answered(dialog)
     with _back_to(over, dialog):
         return line.text() if dialog.exec() else None
 

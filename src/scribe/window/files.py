@@ -133,8 +133,7 @@ class Files:
             left = open_marks(session) - sum(each.open_marks for each in pages)
             text = "".join(proof.html(pages)).encode()
             try:
-                access = Access.read_by(session.pid, session.fileno())
-                write_whole(file, text, access)
+                write_whole(file, text, Access.of_session(session))
             except MayNotLast as failed:
                 raise Stop(may_not_last(file, failed)) from failed
             except OSError as failed:

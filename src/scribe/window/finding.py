@@ -21,6 +21,8 @@ class Finding:
         self.desk = desk
         #: What was looked for last.
         self.sought = ""
+        #: The words among that: cells are none.
+        self.words = ""
         self._finds_alike = False
 
     def find(self) -> None:
@@ -39,11 +41,14 @@ class Finding:
     def look_for(self, sought: str, is_cells: bool) -> None:
         """Goes to the next place of words or cells."""
         self.seek(sought)
+        if is_cells:
+            self.words = ""
         self.to_next(is_cells)
 
     def seek(self, sought: str) -> None:
         """Has words or cells be what is looked for from now on."""
-        self.sought, self._finds_alike = sought, False
+        self.sought = self.words = sought
+        self._finds_alike = False
 
     def find_next(self) -> None:
         """Goes to the next place of what was looked for."""

@@ -17,7 +17,7 @@ from scribe.window.desk import Desk
 from scribe.window.dialogs import IsStopped, Say
 from scribe.window.finding import Finding
 from scribe.words import pagelook
-from scribe.words.pages import page_place
+from scribe.words.pages import not_exported, page_place
 from scribe.words.paragraph import counted, mark_line, marks_summary
 from scribe.words.status import Stop
 
@@ -93,17 +93,17 @@ class Going:
         if not found:
             raise Stop("The book has no headings. Ctrl+T makes one of a paragraph.")
 
-        def look(say: Say, is_stopped: IsStopped) -> list[str]:
+        def look(say: Say, is_stopped: IsStopped) -> tuple[list[str], PageMap]:
             session = desk.book.session
             pages = PageMap(session, desk.page_size)
             return [
                 f"{opening(visible(text), _WORDS)}, {page_place(pages.of_cell(its.id, 0))},"
                 f" paragraph {its.id}"
                 for its, text in zip(found, prints(session, found))
-            ]
+            ], pages
 
-        lines = desk.long("Headings", look)
-        title = f"Headings: {counted(len(found), 'heading')}"
+        lines, pages = desk.long("Headings", look)
+        title = _title(f"Headings: {counted(len(found), 'heading')}", pages)
         before = [n for n, e in enumerate(found) if book.index(e) <= desk.row]
         first = before[-1] if before else 0
         line = desk.line_of(title, lines, first)
@@ -116,16 +116,19 @@ class Going:
         desk = self.desk
         desk.settled()
 
-        def look(say: Say, is_stopped: IsStopped) -> tuple[list[MarkOfBook], list[str]]:
+        def look(
+            say: Say, is_stopped: IsStopped
+        ) -> tuple[list[MarkOfBook], list[str], PageMap]:
             session = desk.book.session
             marks, pages = all_marks(session), PageMap(session, desk.page_size)
-            return marks, [_line(each, pages) for each in marks]
+            return marks, [_line(each, pages) for each in marks], pages
 
-        marks, lines = desk.long("Marks", look)
+        marks, lines, pages = desk.long("Marks", look)
         if not marks:
             raise Stop(marks_summary(marks))
         held = [n for n, each in enumerate(marks) if each.mark.id == desk.in_hand]
-        line = desk.line_of("All marks", lines, held[0] if held else 0)
+        title = _title("All marks", pages)
+        line = desk.line_of(title, lines, held[0] if held else 0)
         if line is None:
             return
         its = marks[line]
@@ -135,6 +138,12 @@ class Going:
         desk.in_hand = its.mark.id
         desk.link()
         desk.say(mark_line(its.mark, its.text))
+
+
+def _title(what: str, pages: PageMap) -> str:
+    """What is listed, and why volumes that have some of it aren't laid out."""
+    reasons = not_exported(pages.not_laid_out.items())
+    return ". ".join([what, " ".join(reasons)]) if reasons else what
 
 
 def _line(its: MarkOfBook, pages: PageMap) -> str:

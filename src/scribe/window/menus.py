@@ -68,7 +68,7 @@ MENUS: Mapping[str, tuple[Item | None, ...]] = {
         None,
         Item("history", "H&istory…", "Ctrl+Y", "h"),
         Item("go_to", "&Go to…", "Ctrl+G", "g"),
-        Item("headings", "All hea&dings…", "Ctrl+Shift+T", "H"),
+        Item("headings", "&All headings…", "Ctrl+Shift+T", "H"),
     ),
     "&Marks": (
         Item("mark", "&Mark what is selected…", "Ctrl+M", "m"),

@@ -22,6 +22,7 @@ from scribe.words.drafts import (
     is_in_book,
     not_kept,
     taken_back_in_part,
+    typed_before,
     what_for,
     where_typed,
     words_wait,
@@ -154,8 +155,9 @@ class Offers:
     def _offer_text(self, offered: Draft, waiting: Draft, said: str) -> None:
         """Asks about a text that waits, of which some may be in the book, after something is said."""
         desk = self.desk
+        same = desk.asked(lambda: desk.book.reads_the_same(desk.contents, waiting))
         asked = (
-            f"{said} {what_for(waiting)} was typed and isn't in the book: {in_short(waiting)}."
+            f"{said} {what_for(waiting)} {typed_before(same)}: {in_short(waiting)}."
             f"{where_typed(desk.unsent.typed_at)}{self._typed.changed_since(waiting)}"
             " Shall it be typed further?"
         ).lstrip()

@@ -10,6 +10,7 @@ from PyQt6.QtCore import (
     QModelIndex,
     Qt,
     QTimer,
+    pyqtSignal,
 )
 from PyQt6.QtGui import QFocusEvent, QKeyEvent
 from PyQt6.QtWidgets import QAbstractItemView, QTableView
@@ -18,7 +19,7 @@ from braildesk import Paragraph, Style
 from braildesk.text.characters import visible
 
 from scribe.window.book import Opening
-from scribe.window.fields import frame, stays_chosen
+from scribe.window.fields import ENTER, frame, stays_chosen
 
 _COLUMNS = ("Number", "Kind", "Open marks", "First words")
 #: The column on which the cursor stands. A screen reader reads the row, cell by cell.
@@ -143,6 +144,9 @@ class Paragraphs(QAbstractTableModel):
 class Table(QTableView):
     """The paragraphs as they are seen, of which one is chosen."""
 
+    #: Enter was pressed where there is none.
+    entered_empty = pyqtSignal()
+
     def __init__(self, model: Paragraphs, letter: Callable[[QKeyEvent], bool]) -> None:
         super().__init__()
         self._letter = letter
@@ -240,7 +244,11 @@ class Table(QTableView):
 
     def keyPressEvent(self, event: QKeyEvent | None) -> None:
         """Has a letter do what its action does, and look for nothing."""
-        if event is not None and not self._letter(event):
+        if event is None or self._letter(event):
+            return
+        if event.key() in ENTER and not self._model.rowCount():
+            self.entered_empty.emit()
+        else:
             super().keyPressEvent(event)
 
 

@@ -23,8 +23,12 @@ class Spoken:
         self._window = window
         # what is spoken, which is seen nowhere
         self._voice: QPlainTextEdit | None = None
-        self._said, self._is_moved, self._is_back = "", False, False
+        self._said, self._is_back = "", False
         self._is_entered = False
+        #: The focus moved while something was done.
+        self.is_moved = False
+        #: The focus moved and nothing came after that, so that what has it now wasn't read yet.
+        self.is_just_moved = False
         # where the focus was as something began to be done, and what that was said to be
         self._before: tuple[QWidget | None, str] = None, ""
         application = QApplication.instance()
@@ -45,7 +49,11 @@ class Spoken:
         return f"{ended(field.described)} {sentence}"
 
     def _note_move(self) -> None:
-        self._is_moved = True
+        self.is_moved = self.is_just_moved = True
+        QTimer.singleShot(0, self._forget_move)
+
+    def _forget_move(self) -> None:
+        self.is_just_moved = False
 
     def note_enter(self) -> None:
         """Notes that Enter was pressed, after which Orca speaks what comes into the text."""
@@ -67,11 +75,11 @@ class Spoken:
     def of_changes(self) -> Iterator[None]:
         """Has what is said meanwhile be spoken, and another paragraph that is shown."""
         field = QApplication.focusWidget()
-        self._said, self._is_moved = "", self._is_back
+        self._said, self.is_moved = "", self._is_back
         before = field.described if isinstance(field, Field) else ""
         self._before, is_entered = (field, before), self._is_entered
         yield
-        if not isinstance(field, Field) or self._is_moved:
+        if not isinstance(field, Field) or self.is_moved:
             return
         found = [self._said]
         if field.described != before:

@@ -175,14 +175,25 @@ class Typed:
         return True
 
     def undo_here(self) -> None:
-        """Takes back the newest correction of the chosen paragraph, whoever made it."""
-        if self.desk.draft() is not None:
+        """Takes back the newest correction of the chosen paragraph, whoever made it.
+
+        What was typed and taken back is typed again first, as the key does by itself in the print.
+        """
+        desk, field = self.desk, self.desk.window.print
+        if field.may_be_typed_again and desk.window.focusWidget() is not field:
+            field.redo()
+            # a screen reader may read once more what comes in after that
+            desk.go_to(field)
+            desk.say("Typed again: what was taken back last.")
+            desk.until_typed()
+            return
+        if desk.draft() is not None:
             # it would be that correction
             raise Stop(_NOT_YET)
-        number = self.desk.settled()
-        self.desk.do(requests.Undo(number))
+        number = desk.settled()
+        desk.do(requests.Undo(number))
         # as above
-        self.desk.link(True)
+        desk.link(True)
 
     def give_up(self) -> None:
         """Gives up what is typed, which can be brought back."""

@@ -74,12 +74,20 @@ def taking_at_progress(typed: Callable[[str], None]) -> AbstractContextManager[N
     return _Blind(typed, _READING_SECONDS, least=1).taking()
 
 
+def taking_at_sentence(typed: Callable[[str], None]) -> AbstractContextManager[None]:
+    """The same at a sentence that stands in place of a window, and that its one button closes."""
+    return _BlindAtSentence(typed).taking()
+
+
 class _Blind(QObject):
     """Takes the text that is typed where buttons have the focus, with the ends of its lines.
 
     Space alone is no text from when it has been asked for some time, if ever. A text has so many
     letters at least.
     """
+
+    # what is said where a text or Space came
+    _no_answer = _NO_ANSWER
 
     def __init__(
         self,
@@ -254,11 +262,21 @@ class _Blind(QObject):
             last.setFocus()
             return
         self._is_said = True
-        last.setAccessibleDescription(_NO_ANSWER)
+        last.setAccessibleDescription(self._no_answer)
         box.setDefaultButton(last)
         last.setFocus()
-        box.setText(f"{box.text()}\n\n{_NO_ANSWER}")
+        box.setText(f"{box.text()}\n\n{self._no_answer}")
         fit(box)
+
+
+class _BlindAtSentence(_Blind):
+    """The same at one button, which has the focus already, and takes it anew so that it is heard."""
+
+    _no_answer = _NOT_HERE
+
+    def _say(self, to: QWidget) -> None:
+        to.clearFocus()
+        super()._say(to)
 
 
 def taking_at_names(

@@ -41,8 +41,8 @@ class View:
         dock = desk.window.dock
         dock.setVisible(not dock.isVisible())
         desk.update_page(True)
-        is_shown = dock.isVisible()
-        desk.say(f"The page is {'shown beside the book' if is_shown else 'hidden'}.")
+        shown = desk.why_no_page or "The page is shown beside the book."
+        desk.say(shown if dock.isVisible() else "The page is hidden.")
 
     def pages_said(self) -> None:
         """Has the page and line be said of what is gone to, or not any more."""

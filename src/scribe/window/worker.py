@@ -2,7 +2,7 @@
 
 from collections import deque
 from collections.abc import Callable
-from concurrent.futures import Future
+from concurrent.futures import Future, wait
 from concurrent.futures import TimeoutError as NotYet
 from contextlib import suppress
 from threading import Condition, Thread
@@ -121,6 +121,13 @@ class Worker(QObject):
             others = [job for job in self._jobs if job.name != name]
             self._jobs = deque([*others, _Job(act, then, name)])
             self._changed.notify()
+
+    def at_once(self, act: Callable[[], object], seconds: float) -> None:
+        """Has something done before all that waits, and waits so many seconds for it, without drawing."""
+        job = _Job(act, lambda future: None)
+        self._put(job, True)
+        if self._thread.is_alive():
+            wait([job.future], seconds)
 
     def stop(self) -> None:
         """Ends the thread once all that waits was done."""

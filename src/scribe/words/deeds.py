@@ -252,17 +252,6 @@ def without(taken: Deed, earlier: Sequence[Deed], done: Deed) -> tuple[Deed, ...
     )
 
 
-def undone(deeds: Sequence[Deed], undo: requests.Undo) -> tuple[Deed, ...]:
-    """The deeds once the newest correction of a paragraph was taken back by itself."""
-    for place in reversed(range(len(deeds))):
-        back = list(deeds[place].back)
-        if undo in back:
-            back.remove(undo)
-            left = [replace(deeds[place], back=tuple(back))] if back else []
-            return (*deeds[:place], *left, *deeds[place + 1 :])
-    return tuple(deeds)
-
-
 def kept(command: Command[Any], answer: Any) -> str:
     """What a command that was answered by its `ok` did."""
     match command:

@@ -7,7 +7,7 @@ from os.path import commonprefix
 from pathlib import Path
 from time import time_ns
 
-from braildesk.desk.draft import Aim, Draft, Unread
+from braildesk.desk.draft import Aim, Draft, Unread, written
 from braildesk.desk.drafts import (
     Begun,
     Drafts,
@@ -111,6 +111,13 @@ def without_paragraph(draft: Draft) -> str:
 def beside_struck(number: int) -> str:
     """What becomes of a text whose paragraph is struck by now, after a blank."""
     return f" Paragraph {number} is struck, so it would be a new paragraph."
+
+
+def typed_before(same: int | None) -> str:
+    """What became of a text that waits: the book doesn't have it, or a paragraph reads the same."""
+    if same is None:
+        return "was typed and isn't in the book"
+    return f"was typed, and paragraph {same} reads the same"
 
 
 def while_struck(number: int) -> str:
@@ -405,6 +412,7 @@ class Unsent:
     def _have_wait(self, wanted: Draft | None) -> None:
         """Has a text wait in place of the one that did, or none; may raise `NotKept`."""
         before = self.waiting
+        self._give_up_others(before, wanted)
         if wanted is None:
             self._drafts.clear()
         else:
@@ -412,6 +420,16 @@ class Unsent:
                 self._keep_beside(before)
             self._drafts.save(wanted)
         self.waiting, self.typed_at, self._is_hidden = wanted, None, False
+
+    def _give_up_others(self, *own: Draft | None) -> None:
+        """Gives up a text that another session has wait by now, before it is written over.
+
+        So it is where one of the two was lost, and more is typed in both.
+        """
+        known = [each for each in (*own, *self._later, *self._put_off) if each]
+        found = self._drafts.seen_waiting()
+        if found and found.text not in (written(each.text) for each in known):
+            self.put_by(found)
 
     def _keep_beside(self, draft: Draft) -> None:
         """Keeps a text that is left for later where it is found if the machine stops before it waits again.

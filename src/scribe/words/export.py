@@ -6,7 +6,15 @@ from contextlib import ExitStack, contextmanager, suppress
 from dataclasses import replace
 from pathlib import Path
 
-from braildesk import CannotOpen, DeskError, Displaced, Lost, Session, check
+from braildesk import (
+    CannotOpen,
+    DeskError,
+    Displaced,
+    Failed,
+    Lost,
+    Session,
+    check,
+)
 from braildesk.desk.export import (
     BookChanges,
     Differences,
@@ -80,6 +88,9 @@ def export_in_words(job: Job, console: Console) -> Status:
     except KeyboardInterrupt as cause:
         console.say(stopped_by(cause) + _so_far(made))
         raise Interrupted.after(cause) from cause
+    except Failed as failed:
+        # as where the program was killed that reads the volumes
+        raise Failed(f"{failed.sentence}{_so_far(made)}") from failed
     except OutputFailed as failed:
         # the files are written all the same
         failed.add_note(_so_far(made).lstrip())
@@ -129,7 +140,11 @@ def numbers_in_words(numbers: Sequence[int]) -> str:
 
 def pages_in_words(job: Job, volume: int | None, wanted: Sequence[PageRange]) -> str:
     """Exports some pages of a volume, and says where they are; raises what `export_pages` does."""
-    made = export_pages(job, volume, wanted)
+    try:
+        made = export_pages(job, volume, wanted)
+    except Failed as failed:
+        # as above
+        raise Failed(f"{failed.sentence} Nothing was exported.") from failed
     pages = counted(made.pages, "page")
     return f"{made.file}: {pages} of volume {made.volume}."
 
@@ -194,9 +209,7 @@ def not_written(fault: NotWritten) -> str:
     left = "is as it was" if fault.is_there else "was not made"
     if isinstance(fault.cause, Swapped):
         left = "isn't what was exported"
-    pages = ""
-    if fault.changed is not None:
-        pages = f" {fault.changed} is new, with the pages that change in it."
+    pages = "" if fault.changed is None else _of_changed_pages(fault.changed)
     return (
         f"Volume {fault.volume} could not be written: {of_failure(fault.cause)}. {fault.file}"
         f" {left}.{pages}{_files(fault.files)}"
@@ -206,7 +219,16 @@ def not_written(fault: NotWritten) -> str:
 def _so_far(made: Export) -> str:
     """What an export has done that was ended, after a blank."""
     files = made.so_far()
-    return " Nothing was exported." if files is None else _files(files)
+    if files is None:
+        return " Nothing was exported."
+    changed = map(made.job.changed_file, files.as_before)
+    pages = [_of_changed_pages(file) for file in changed if file in made.changed_files]
+    return _files(files) + "".join(pages)
+
+
+def _of_changed_pages(file: Path) -> str:
+    """That the file of the pages in which a volume changes is there, and not yet that of the volume."""
+    return f" {file} is new, with the pages that change in it."
 
 
 def _files(files: Files) -> str:

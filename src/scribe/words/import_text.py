@@ -225,7 +225,7 @@ def _report(importer: Importer, show: Callable[..., None], report: Path | None) 
 
     if report is not None:
         lines = report_lines(job.text, taken)
-        access = Access.of(importer.fileno())
+        access = importer.access
         _write_report(job, report, lines or [f"{job.text} is a text."], access)
     if job.way is Way.GO_ON:
         return

@@ -15,7 +15,7 @@ from braildesk.desk.layout import (
     sections,
     spans_of,
 )
-from braildesk.desk.places import words_of
+from braildesk.desk.places import words_on_line
 from braildesk.text.spans import Span
 
 from scribe.words.pages import described, no_line, not_exported
@@ -219,7 +219,8 @@ def start_of(
     (section,) = sections(session, [its])
     cells = Span(*spans_of(section, size.width)[wanted - lines.start])
     text = session.print_of(its.id)
-    return its.id, words_of(session, its.id, cells, text, section.braille).start
+    words = words_on_line(session, its.id, cells, text, section.braille)
+    return its.id, words.start
 
 
 def place_said(

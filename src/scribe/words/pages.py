@@ -96,4 +96,6 @@ def page_place(place: PagePlace | None) -> str:
     """On which line of the pages something stands."""
     if place is None:
         return "on no page"
+    if not place.page:
+        return f"volume {place.volume}, not laid out"
     return f"volume {place.volume}, page {place.page}, line {place.line}"

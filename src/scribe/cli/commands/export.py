@@ -9,6 +9,7 @@ from braildesk.desk.export import Job
 from braildesk.desk.ranges import PageRange
 from braildesk.protocol.sentences import LOOKED_AT_BY_COPY
 
+from scribe.cli.endings import made_or_not
 from scribe.cli.page_size import add_page_size, page_size_of
 from scribe.cli.parser import (
     Subparsers,
@@ -99,5 +100,9 @@ def _exported(
 ) -> Status:
     if wanted is None:
         return export_in_words(job, console)
-    console.show(pages_in_words(job, volume, wanted))
+    # without its number it is the only one
+    file = job.pages_file(1 if volume is None else volume, wanted)
+    with made_or_not(console, file, f"{file} is new.", f"{file} is as before."):
+        console.show(pages_in_words(job, volume, wanted))
+        console.flush()
     return Status.DONE

@@ -19,7 +19,7 @@ from braildesk.text.characters import code_and_name
 from braildesk.text.sequences import composed
 
 from scribe.cli.book_command import BookCommand
-from scribe.cli.page_size import add_pages, page_map
+from scribe.cli.page_size import add_pages, not_laid_out, page_map
 from scribe.cli.parser import Parser, WordsRefused, add_width
 from scribe.words.console import Console
 from scribe.words.find import cell_lines, found_summary, word_lines
@@ -92,7 +92,8 @@ def answer(session: Session, arguments: Namespace, console: Console) -> None:
             console.show(*word_lines(hit, width, _of_words(pages, hit)))
         if not (tally.count or arguments.alike):
             others = tallied(find_words(session, text, alike), text)
-    console.say(found_summary(text, tally, others, _OFFER))
+    summary = found_summary(text, tally, others, _OFFER)
+    console.say(summary, *not_laid_out(pages))
 
 
 def _of_words(pages: "PageMap | None", hit: Hit) -> Callable[[int], str] | None:

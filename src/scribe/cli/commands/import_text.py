@@ -71,7 +71,8 @@ def add_parser(subparsers: Subparsers) -> ArgumentParser:
         dest="line",
         metavar="LINE",
         type=counted("lines and paragraphs"),
-        help="begin at this line, or this paragraph of a document",
+        help="begin at this line, or this paragraph of a document; the paragraph before it has to be in"
+        " the book already, right before where the text goes",
     )
     _add_choices(parser)
     _add_ways(parser)

@@ -7,7 +7,7 @@ from braildesk import Session
 from braildesk.desk.marks import MarkOfBook, all_marks
 
 from scribe.cli.book_command import BookCommand
-from scribe.cli.page_size import add_pages, page_map
+from scribe.cli.page_size import add_pages, not_laid_out, page_map
 from scribe.cli.parser import Parser, add_width, number
 from scribe.words.console import Console
 from scribe.words.paragraph import mark_line, marks_summary
@@ -50,7 +50,7 @@ def answer(session: Session, arguments: Namespace, console: Console) -> None:
             life = "struck" if each.is_struck else ""
             console.show(mark_line(each.mark, each.text, each.paragraph, page, life))
     whose = "The book" if number is None else f"Paragraph {number}"
-    console.say(marks_summary(marks, whose))
+    console.say(marks_summary(marks, whose), *not_laid_out(pages))
 
 
 def _page(pages: "PageMap", its: MarkOfBook) -> str:

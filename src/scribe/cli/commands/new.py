@@ -7,7 +7,7 @@ from braildesk.desk.tables import first_table
 
 from scribe.cli.endings import made_or_not
 from scribe.cli.parser import Subparsers, add_file, command_parser
-from scribe.words.console import Console
+from scribe.words.console import Console, OutputFailed
 from scribe.words.status import Status
 
 MORE = """\
@@ -34,6 +34,11 @@ def run(arguments: Namespace, console: Console) -> Status:
     made = f"{file} is a new book with the table {request.table}."
     with made_or_not(console, file, made, f"{file} has what it had."):
         new_book(file, holding=[request], timeout=arguments.wait)
-        console.show(made)
-        console.flush()
+        try:
+            console.show(made)
+            console.flush()
+        except OutputFailed as failed:
+            # the book is there all the same
+            failed.add_note(made)
+            raise
     return Status.DONE

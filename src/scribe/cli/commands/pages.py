@@ -6,7 +6,7 @@ from contextlib import ExitStack, contextmanager, suppress
 from dataclasses import dataclass
 from functools import partial
 
-from braildesk import DeskError, NotFound, Session, export
+from braildesk import Code, DeskError, NotFound, Refused, Session, export
 from braildesk.desk.layout import PageSize, Row, Volume, parted, volume
 from braildesk.desk.page_places import printed, rows_of, rows_on
 from braildesk.desk.readings import prints
@@ -131,6 +131,12 @@ def _pages_of(part: Part, exported: Callable[[], bytes]) -> int:
         written = exported()
     except NotFound:
         raise _otherwise(part.volume) from None
+    except Refused as refused:
+        if refused.code != Code.NOT_FOR_EMBOSSERS:
+            raise
+        # nothing was to be exported
+        said = refused.sentence.replace("was exported", "is shown")
+        raise Stop(said) from refused
     # the last one ends in a form feed too
     *pages, _ = written.split(b"\f")
     is_counted = not part.volume.is_whole or len(pages) == its.pages

@@ -101,7 +101,7 @@ def _written(
     with looked_at(arguments, console) as (session, _):
         found = list(proof_pages(session, page_size))
         left = open_marks(session) - sum(page.open_marks for page in found)
-        access = Access.read_by(session.pid, session.fileno())
+        access = Access.of_session(session)
     pages = list(_wanted(found, arguments.marks_only))
     others = [elsewhere(left)] if left else []
     if not pages:
