@@ -18,6 +18,7 @@ from braildesk.protocol.requests import Mark, Supply, Type
 
 from scribe.window import dialogs
 from scribe.window.actions import Actions
+from scribe.window.collecting import Collector
 from scribe.window.desk import Desk
 
 from reader import PATIENCE_SECONDS, Reader
@@ -78,8 +79,11 @@ def at() -> Iterator[Open]:
 @pytest.fixture(scope="session")
 def application() -> QApplication:
     """The one application of these tests."""
-    found = QApplication.instance()
-    return found if isinstance(found, QApplication) else QApplication([])
+    there = QApplication.instance()
+    found = there if isinstance(there, QApplication) else QApplication([])
+    # no window of an earlier test is taken away in the threads of a later one
+    Collector(found)
+    return found
 
 
 @pytest.fixture

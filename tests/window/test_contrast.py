@@ -1,17 +1,14 @@
 """High contrast, which a window has where the desktop wants it, from its opening on and as it changes."""
 
-import gc
 import os
-import weakref
 from collections import Counter
 from collections.abc import Callable, Iterator
 from pathlib import Path
 
 import pytest
 from gi.repository import Atspi  # type: ignore[import]
-from PyQt6.QtCore import QEvent
 from PyQt6.QtGui import QGuiApplication, QImage, QPalette
-from PyQt6.QtWidgets import QApplication, QWidget
+from PyQt6.QtWidgets import QApplication
 
 from scribe.window.contrast import Contrast
 from scribe.window.desk import Desk
@@ -214,52 +211,3 @@ def test_kde_has_colours_of_its_own(
     assert wait(application, PATIENCE_SECONDS, lambda: not is_of(application, before))
     portal.set(CONTRAST, "0")
     assert wait(application, PATIENCE_SECONDS, lambda: is_of(application, before))
-
-
-class Window(QWidget):
-    """A window that makes another, to which only that one leads, whenever its colours become others.
-
-    It makes as many things besides as Python makes before it looks for what nothing leads to.
-    """
-
-    def __init__(self) -> None:
-        super().__init__()
-        self.itself: QWidget | None = None
-        #: Whether each of the others was taken away meanwhile.
-        self.taken: list[bool] = []
-
-    def changeEvent(self, event: QEvent | None) -> None:
-        """Makes it, where that may be in the midst of all windows."""
-        if event is None:
-            return
-        super().changeEvent(event)
-        kinds = QEvent.Type.PaletteChange, QEvent.Type.StyleChange
-        if event.type() not in kinds or not self.isVisible():
-            return
-        other = Window()
-        other.itself = other
-        its = weakref.ref(other)
-        del other
-        things = [[n] for n in range(gc.get_threshold()[0] + 1)]
-        self.taken.append(its() is None and bool(things))
-
-
-def test_no_window_is_taken_away_while_the_colours_of_all_become_others(
-    application: QApplication, lends: Lend
-) -> None:
-    portal, before = lends((CONTRAST, "1")), application.palette()
-    window = Window()
-    window.show()
-    contrast = Contrast(application)
-    contrast.follow()
-    for setting, is_wanted in (("1", True), ("0", False)):
-        window.taken.clear()
-        portal.set(CONTRAST, setting)
-        assert wait(
-            application,
-            PATIENCE_SECONDS,
-            lambda: is_of(application, before) != is_wanted and bool(window.taken),
-        )
-        assert not any(window.taken)
-        assert gc.isenabled()
-    window.close()

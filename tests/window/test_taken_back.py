@@ -48,8 +48,6 @@ class Hands:
             **{self._take_back: 10, self._type_again: 5, self._act: 6},
             **{self._cut: 1, self._close: 1},
         }
-        # which go in no other thread
-        self._closed: list[Desk] = []
         self.open()
 
     def open(self) -> None:
@@ -155,7 +153,6 @@ class Hands:
         if not self.desk.window.close():
             return
         self.desk.close()
-        self._closed.append(self.desk)
         kept = [each.text for each in Drafts(self.book).given_up()]
         # those for which there is no room are only here until it ends, which was said
         gone = {each.text for each in self.desk.unsent.texts()}.difference(kept)

@@ -27,6 +27,7 @@ from braildesk.text.characters import visible
 
 from scribe.window.actions import Actions
 from scribe.window.choosing import chosen_book
+from scribe.window.collecting import Collector
 from scribe.window.contrast import Contrast
 from scribe.window.desk import Desk
 from scribe.window.dialogs import choice
@@ -81,6 +82,7 @@ class Application:
         self._qt = QApplication(sys.argv[:1])
         self._qt.setApplicationName("braildesk")
         self._qt.setDesktopFileName("braildesk-desktop")
+        self._collector = Collector(self._qt)
         self._dragged = Dragged(self._qt)
         self._contrast = Contrast(self._qt)
         self._contrast.follow()

@@ -5,10 +5,7 @@ lends its settings to programs, and is followed as they change. Without a portal
 soon, GNOME's program for settings is asked, once. Nothing waits for an answer, and none comes too late.
 """
 
-import gc
 import os
-from collections.abc import Iterator
-from contextlib import contextmanager
 
 from PyQt6.QtCore import QObject, QProcess, QTimer, pyqtSlot
 from PyQt6.QtDBus import (
@@ -144,22 +141,8 @@ class Contrast(QObject):
             wanted = known.get(_SCHEME) == _DARK or self._is_dark
         if wanted != self._shown:
             self._shown = wanted
-            with _none_collected():
-                its = QPalette() if wanted is None else palette(wanted)
-                application.setPalette(its)
-                application.setStyleSheet("" if wanted is None else _SHEET)
-
-
-@contextmanager
-def _none_collected() -> Iterator[None]:
-    """Takes away no window to which nothing leads any more while Qt goes through all of them."""
-    is_collected = gc.isenabled()
-    gc.disable()
-    try:
-        yield
-    finally:
-        if is_collected:
-            gc.enable()
+            application.setPalette(QPalette() if wanted is None else palette(wanted))
+            application.setStyleSheet("" if wanted is None else _SHEET)
 
 
 def palette(is_dark: bool) -> QPalette:

@@ -154,6 +154,8 @@ class Worker(QObject):
                 job = self._jobs.popleft()
             job.run()
             self._done.emit(job)
+            # what it holds goes in the thread of the window
+            del job
 
     def _hand_over(self, job: _Job) -> None:
         job.then(job.future)
