@@ -8,6 +8,10 @@ from typing import Any
 
 from PyQt6.QtWidgets import QApplication
 
+from braildesk.text.spans import Span
+
+from scribe.window.fields import Field
+
 from conftest import Open, wait
 from reader import PATIENCE_SECONDS
 
@@ -63,3 +67,13 @@ def test_a_book_that_is_opened_has_none_taken_away_in_another_thread(
     window.press("Ctrl+q")
     assert window.end() == 0
     assert set(noted.read_text().split()) == {"True"}
+
+
+def test_cursors_of_what_is_lit_are_taken_away_at_once(
+    application: QApplication,
+) -> None:
+    field = Field("Print", True)
+    field.show_text("The Moon")
+    gc.collect()
+    field.light([Span(0, 3)], Span(1, 2))
+    assert gc.collect() == 0

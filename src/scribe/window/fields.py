@@ -261,12 +261,12 @@ class Field(QPlainTextEdit):
         for span, form in stretches:
             if not span.start < span.stop <= len(text):
                 continue
+            cursor, stop = self.textCursor(), units(text, span.stop)
+            cursor.setPosition(units(text, span.start))
+            cursor.setPosition(stop, QTextCursor.MoveMode.KeepAnchor)
             its = QTextEdit.ExtraSelection()
-            its.cursor = self.textCursor()
-            its.cursor.setPosition(units(text, span.start))
-            stop = units(text, span.stop)
-            its.cursor.setPosition(stop, QTextCursor.MoveMode.KeepAnchor)
-            its.format = form
+            # the cursor that this gives back would lead to it, and it to the cursor
+            its.cursor, its.format = cursor, form
             found.append(its)
         self.setExtraSelections(found)
 
