@@ -1,10 +1,13 @@
 """The corrections of an edit: one, or more around the words of marks."""
 
+import re
 import time
 from collections.abc import Sequence
+from dataclasses import replace
+from itertools import accumulate
 
 import pytest
-from hypothesis import given
+from hypothesis import given, settings
 from hypothesis import strategies as st
 
 from braildesk import Mark
@@ -70,13 +73,21 @@ CASES: list[tuple[str, str, list[Mark], list[tuple[int, int, str]]]] = [
     # a mark on all that changes parts nothing
     ("a b c d e", "a X c Y e", on("a b c d e", "a b c d e"), [(2, 5, "X c Y")]),
     ("a b c d e", "a X c Y e", on("a b c d e", "b c d"), [(2, 5, "X c Y")]),
-    # nor does any if that would touch another one, which one correction doesn't
+    # of two words that are the same the one goes that has no mark
     ("a b c c", "X b c", on("a b c c", "b"), [(5, 2, ""), (0, 1, "X")]),
     (
         "a b c c",
         "X b c",
         [*on("a b c c", "b"), Mark(2, 6, 7, False, False, "?")],
-        [(0, 5, "X b")],
+        [(4, 2, ""), (0, 1, "X")],
+    ),
+    # nor does any if that would touch another one, which one correction doesn't
+    ("the them", "them", on("the them", "them"), [(0, 4, "")]),
+    (
+        "the them",
+        "them",
+        [*on("the them", "them"), Mark(2, 0, 3, False, False, "?")],
+        [(3, 4, "")],
     ),
     # also a part of a word, with what belongs to it
     ("a beach c", "X beach Y", on("a beach c", "eac"), [(8, 1, "Y"), (0, 1, "X")]),
@@ -134,6 +145,154 @@ def test_an_edit_is_parted_only_around_words_that_stay_and_have_a_mark(
     assert found == wanted
 
 
+#: Sentences and what they are to be, with the words of marks between brackets.
+STAY = [
+    # what comes in front of a word begins as that does
+    ("[The] sea is wide.", "Then [The] sea is wide."),
+    ("I saw [them] go.", "I saw the old [them] go."),
+    ("Er sah [die] See.", "Er sah dieses Mal [die] See."),
+    ("[Kůň] úpěl dál.", "Kůňský hřbet, [Kůň] úpěl dál."),
+    ("[Ночь] темна.", "Ночью ходят. [Ночь] темна."),
+    ("[The] sea is wide.", "Then [The] beach is wide."),
+    # or what comes behind it ends as it does
+    ("A [cat] sat.", "A [cat] and bobcat sat."),
+    ("«[Oui]», dit-il.", "«[Oui]», dit-on, «oui», dit-il."),
+    # one of two words that are equal goes
+    ("He had [had it].", "He [had it]."),
+    ("Twice the [the sea] came.", "Once [the sea] went."),
+    ("L’eau [d’en haut], l’eau.", "L’eau [d’en haut]."),
+    ("the [them]", "[them]"),
+    # some words stay, in other places of the sentence
+    (
+        "The [sea], the [moon] and the [beach].",
+        "A day, the [sea], a night, the dusty [moon], a [beach].",
+    ),
+    (
+        "Don't say that it [won't], or [can't].",
+        "Please don't say it. It [won't]; it really [can't]!",
+    ),
+    (
+        "A [well-known] e-mail was re-sent.",
+        "That e-mail, well known, a [well-known] one, was sent again.",
+    ),
+    (
+        "Qu’il vienne, ou qu’elle aille à [l’eau] ici.",
+        "Qu’elle dise : qu’il parte, ou qu’elle nage à [l’eau].",
+    ),
+    ("a [q\u0307] b q c", "q q\u0307q\u0307 [q\u0307] b c"),
+    ("[月亮]很远，[太阳]很近。", "那[月亮]不远，但是[太阳]很热。"),
+    ("[つき]はとおい。", "あの[つき]はちかい。"),
+    ("[พระจันทร์]ไกลมาก", "ดู[พระจันทร์]ใกล้ มากๆ"),
+    # a sign alone
+    ("Hin, her [-] und wieder, ja.", "Her, hin [-] oder nicht, nein."),
+    # where words are gone the mark stays beside those that stay or are changed
+    ("The [] moon is far.", "A [] sun is far, they say."),
+    ("The moon[] is far.", "A moon[] was far, they say."),
+]
+
+
+def bracketed(text: str) -> tuple[str, list[Mark]]:
+    """A text without brackets, and marks on what was between them."""
+    pieces = re.split(r"[][]", text)
+    ends = [0, *accumulate(len(piece) for piece in pieces)]
+    places = zip(ends[1::2], ends[2::2])
+    return "".join(pieces), [
+        Mark(nth, start, stop, False, False, "?")
+        for nth, (start, stop) in enumerate(places, 1)
+    ]
+
+
+def kept(
+    old: str, parts: Sequence[Correction], marks: Sequence[Mark]
+) -> tuple[str, list[Mark]]:
+    """A print and its marks after corrections, as a book keeps them."""
+    for part in parts:
+        by = len(part.text) - part.count
+        moved = list[Mark]()
+        for mark in marks:
+            start, stop = mark.start, mark.stop
+            if stop <= part.start:
+                moved.append(mark)
+            elif part.stop <= start:
+                moved.append(replace(mark, start=start + by, stop=stop + by))
+            else:
+                start, stop = min(start, part.start), max(stop, part.stop) + by
+                moved.append(replace(mark, start=start, stop=stop, touched=True))
+        old, marks = composed(part.applied(old)), moved
+    return old, [*marks]
+
+
+@pytest.mark.parametrize("before, after", STAY)
+def test_a_mark_stays_on_its_words_where_others_come_and_go_beside_them(
+    before: str, after: str
+) -> None:
+    (old, marks), wanted = bracketed(before), bracketed(after)
+    assert kept(old, corrections(old, wanted[0], marks), marks) == wanted
+
+
+def test_of_marked_words_that_change_places_those_stay_beside_which_most_stays() -> (
+    None
+):
+    old, new = "x a r s t y", "z s t y a w"
+    marks = on(old, "a", "s t")
+    now, (one, other) = kept(old, corrections(old, new, marks), marks)
+    assert now == new and one.touched
+    assert new[other.start : other.stop] == "s t" and not other.touched
+
+
+WORDS = (
+    "the then them theme he her a an and the, “the” (the) - don't can't won't o'clock "
+    "l’eau d’eau l’air qu’il re-enter re enter die dieses See Seen, kůň kůňský q\u0307 "
+    "q\u0307q ночь ночью שלום הים 한국 한국어 月亮 月 太阳。"
+).split()
+OLD_WORDS = st.lists(st.sampled_from(WORDS), min_size=1, max_size=12)
+
+
+@st.composite
+def edits(draw: st.DrawFn) -> tuple[list[str], list[str], list[int | None]]:
+    """Words, others that come of them by what is put in, taken away and put in its place, and which
+    of the first each of these was.
+    """
+    old = draw(OLD_WORDS)
+    places: list[int | None] = [*range(len(old))]
+    new = list(old)
+    for _ in range(draw(st.integers(1, 4))):
+        start = draw(st.integers(0, len(new)))
+        stop = min(start + draw(st.integers(0, 2)), len(new))
+        came = draw(st.lists(st.sampled_from(WORDS), max_size=2))
+        new[start:stop], places[start:stop] = came, [None] * len(came)
+    return old, new, places
+
+
+def spans_of(words: Sequence[str]) -> list[Span]:
+    """Where words stand that have a blank between them."""
+    ends = accumulate((len(word) + 1 for word in words), initial=0)
+    return [Span(end, end + len(word)) for end, word in zip(ends, words)]
+
+
+@given(edits(), st.data())
+@settings(max_examples=400)
+def test_a_marked_word_that_is_there_once_keeps_its_mark_as_those_beside_it_stay(
+    edit: tuple[list[str], list[str], list[int | None]], data: st.DataObject
+) -> None:
+    old, new, places = edit
+    before, after = spans_of(old), spans_of(new)
+    stay = [place for place in places if place is not None]
+    nths = data.draw(st.lists(st.sampled_from(stay), max_size=4)) if stay else []
+    marks = [Mark(n, *before[nth], False, False, "") for n, nth in enumerate(nths, 1)]
+    text = " ".join(old)
+    now, found = kept(text, corrections(text, " ".join(new), marks), marks)
+    assert now == " ".join(new)
+    assert [mark.id for mark in found] == [mark.id for mark in marks]
+    sides, others = [None, *old, None], [None, *new, None]
+    for nth, mark in zip(nths, found):
+        word = old[nth]
+        if old.count(word) == new.count(word) == 1:
+            place = places.index(nth)
+            if sides[nth : nth + 3] == others[place : place + 3]:
+                assert (mark.start, mark.stop, mark.touched) == (*after[place], False)
+
+
 def made(old: str, parts: Sequence[Correction], mark: Mark) -> tuple[str, Span | None]:
     """The print after corrections, and where a mark is then; nothing if it was touched."""
     its: Span | None = Span(mark.start, mark.stop)
@@ -187,3 +346,20 @@ def test_a_long_print_of_whatever_words_is_soon_parted(word: str, other: str) ->
     begun = time.process_time()
     assert corrections(old, new, on(old, "a" if "a" in word else "345"))
     assert time.process_time() - begun < 10
+
+
+def test_an_edit_of_a_long_print_with_marks_all_over_takes_no_time_that_is_felt() -> (
+    None
+):
+    words = f"{SEA} ".split() * 24
+    old = " ".join(words)[:2_000]
+    spans = spans_of(words[:-60])
+    marks = [Mark(n, *spans[n * 15], False, False, "?") for n in range(1, 21)]
+    words[5::40] = ["a big"] * len(words[5::40])
+    new = " ".join(words)[:2_050]
+    times = []
+    for _ in range(5):
+        begun = time.process_time()
+        assert len(corrections(old, new, marks)) > 1
+        times.append(time.process_time() - begun)
+    assert min(times) < 0.05

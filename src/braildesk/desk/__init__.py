@@ -7,9 +7,10 @@ Of a book, ``readings`` asks for many paragraphs, ``ranges`` picks some, ``place
 of words and the words of cells, ``find`` and ``search`` find words, ``highlighting`` says what is
 highlighted beside the cursor, ``marks`` puts and lists marks, ``history`` says who changed what,
 and ``tables`` puts tables into a book. ``correction`` is the smallest one that makes a print of
-another, ``around_marks`` are those of an edit with marks between, ``change`` and ``change_all``
-replace words, ``change_note`` and ``changed_so_far`` are about such a change that was cut short,
-and ``aftermath`` finds what became of a command that wasn't answered.
+another, ``around_marks`` are those of an edit with marks between, for which ``matched_words`` puts
+words beside others, ``change`` and ``change_all`` replace words, ``change_note`` and
+``changed_so_far`` are about such a change that was cut short, and ``aftermath`` finds what became
+of a command that wasn't answered.
 
 Pages are laid out by ``layout``; ``page_places`` says what stands on which of them, ``volume_plan``
 where volumes should begin, and ``export`` and ``proof`` write them. A manuscript is read by

@@ -4,13 +4,14 @@ A mark that a correction touches covers all that came in, for good. So an edit t
 several places is parted around the words of marks: these stay as they are, or are corrected alone.
 """
 
-from collections import Counter
-from collections.abc import Callable, Iterable, Iterator, Mapping, Sequence
-from dataclasses import replace
-from itertools import groupby, pairwise
+from bisect import bisect_left, bisect_right
+from collections.abc import Callable, Iterable, Iterator, Mapping, Sequence, Set
+from dataclasses import dataclass, replace
+from itertools import accumulate, chain, groupby, pairwise
 
 from braildesk import Mark
 from braildesk.desk.correction import Correction, smallest_correction
+from braildesk.desk.matched_words import finer, is_sign, steps, sure_matches
 from braildesk.text import limits
 from braildesk.text.cells import BLANKS
 from braildesk.text.sequences import seams, sequences
@@ -18,29 +19,77 @@ from braildesk.text.spans import Span
 
 #: Words are put beside each other where that takes no more steps than about a second has.
 _MOST_STEPS = 10_000_000
+#: A correction is moved to one of so many places, those that are nearest to it.
+_MOST_PLACES = 64
+#: The scripts that put no blanks between words: Thai and Lao, Burmese, Khmer, kana and ideographs.
+_ALONE = (
+    range(0x0E00, 0x0F00),
+    range(0x1000, 0x10A0),
+    range(0x1780, 0x1800),
+    range(0x3040, 0x3100),
+    range(0x3400, 0xA000),
+    range(0xF900, 0xFB00),
+    range(0x20000, 0x40000),
+)
+#: The last character before those.
+_MOST_WITH_BLANKS = "\u0dff"
 #: A stretch of a print that stays, and how much further on it stands in the other print.
 _Stay = tuple[Span, int]
+#: A word of a print, and the word that stands in its place in the other print.
+_Pair = tuple[Span, Span]
+
+
+@dataclass(frozen=True)
+class _Print:
+    """A print, its places where no sequence is cut, and of these the ones where no word is."""
+
+    text: str
+    seams: Set[int]
+    edges: Set[int]
+
+
+@dataclass(frozen=True)
+class _Edit:
+    """A print, what it is to be, and where marks are."""
+
+    old: _Print
+    new: _Print
+    least: Correction
+    #: The marks that the smallest correction doesn't touch.
+    others: Set[Span]
+    #: Those that it touches or makes a part of another word.
+    near: Sequence[Span]
+
+
+@dataclass(frozen=True)
+class _Words:
+    """The words of a print that change or stand between such words, and those in place of them."""
+
+    before: list[Span]
+    #: Those that stay.
+    same: list[_Pair]
+    #: Those in place of which as many others come, as far as they stand together.
+    changed: list[list[_Pair]]
 
 
 def corrections(old: str, new: str, marks: Iterable[Mark]) -> tuple[Correction, ...]:
     """The corrections that make the new print of the old one, none if they are the same.
 
     The last of the print comes first, so that each is right once those before it are made. It is the
-    smallest one alone unless it would take a mark of the paragraph beyond its words.
+    smallest one alone unless it would take a mark of the paragraph beyond its words, or beside them.
     """
     least = smallest_correction(old, new)
     if least is None:
         return ()
-    touched, others = list[Span](), list[Span]()
-    for mark in marks:
-        its = Span(mark.start, mark.stop)
-        (touched if _is_touched(its, least) else others).append(its)
-    parts = _parted(old, new, _stays(old, new, least, touched) if touched else [])
-    is_long = any(
-        len(text) > limits.PRINT_CHARACTERS for text in prints_between(old, parts)
-    )
-    is_more = any(_is_touched(its, part) for its in others for part in parts)
-    return (least,) if is_long or is_more else parts
+    spans = {Span(mark.start, mark.stop) for mark in marks}
+    edit = _edit(old, new, least, spans) if spans else None
+    if edit is None or not edit.near:
+        return (least,)
+    for found in (_parted(old, new, _stays(edit)), (least,)):
+        parts = _beside_words(edit, found)
+        if _is_right(edit, parts):
+            return parts
+    return (least,)
 
 
 def prints_between(old: str, parts: Sequence[Correction]) -> list[str]:
@@ -52,9 +101,54 @@ def prints_between(old: str, parts: Sequence[Correction]) -> list[str]:
     return prints
 
 
+def _edit(old: str, new: str, least: Correction, spans: Set[Span]) -> _Edit:
+    """An edit of a print that has marks on some spans."""
+    others = {its for its in spans if not _is_touched(its, least)}
+    edit = _Edit(_print(old), _print(new), least, others, ())
+    near = [
+        its
+        for its in sorted(spans)
+        if its not in others or _is_joined(edit, its, least, 0)
+    ]
+    return replace(edit, near=near)
+
+
+def _print(text: str) -> _Print:
+    edges = {0, *accumulate(len(piece) for piece in _pieces(text, _is_of_letters))}
+    return _Print(text, frozenset(seams(text)), edges)
+
+
+def _is_right(edit: _Edit, parts: Sequence[Correction]) -> bool:
+    """Whether corrections make just the new print, and touch no mark that one alone doesn't."""
+    text, prints = edit.old.text, prints_between(edit.old.text, parts)
+    for part in parts:
+        text = part.applied(text)
+        # what came in would be joined to what is beside it, and places after it count otherwise
+        if not {part.start, part.start + len(part.text)} <= set(seams(text)):
+            return False
+    is_long = any(len(each) > limits.PRINT_CHARACTERS for each in prints)
+    is_more = any(_is_touched(its, part) for its in edit.others for part in parts)
+    return text == edit.new.text and not is_long and not is_more
+
+
 def _is_touched(its: Span, by: Correction) -> bool:
     """Whether a correction of a print touches a mark on a span of it."""
     return its.start < by.stop and by.start < its.stop
+
+
+def _is_joined(edit: _Edit, its: Span, by: Correction, further: int) -> bool:
+    """Whether a correction makes a mark's words, which it is beside, a part of another word.
+
+    Where it is, the new print stands so much further on.
+    """
+    if its.start == its.stop:
+        return False
+    place, edges, new_edges = by.start + further, edit.old.edges, edit.new.edges
+    if its.stop == by.start:
+        return its.stop in edges and place not in new_edges
+    if its.start == by.stop:
+        return its.start in edges and place + len(by.text) not in new_edges
+    return False
 
 
 def _parted(old: str, new: str, stays: Iterable[_Stay]) -> tuple[Correction, ...]:
@@ -64,7 +158,7 @@ def _parted(old: str, new: str, stays: Iterable[_Stay]) -> tuple[Correction, ...
     end = Span(len(old), len(old)), len(new) - len(old)
     for (start, stop), further in [*sorted(stays), end]:
         start = max(start, here)
-        if start + further < there:
+        if stop < here or start + further < there:
             # beside a stretch that it overlaps, other words came in
             continue
         part = smallest_correction(old[here:start], new[there : start + further])
@@ -75,37 +169,136 @@ def _parted(old: str, new: str, stays: Iterable[_Stay]) -> tuple[Correction, ...
     return tuple(parts)
 
 
-def _stays(
-    old: str, new: str, least: Correction, spans: Iterable[Span]
-) -> Iterator[_Stay]:
-    """The words of some spans that stay as they are while others beside them change.
+def _beside_words(edit: _Edit, parts: Sequence[Correction]) -> tuple[Correction, ...]:
+    """The same corrections, each moved along equal letters to where marks stay on their words."""
+    moved, further = list[Correction](), 0
+    stops = [part.start for part in parts[-2::-1]] + [len(edit.old.text)]
+    for part, stop in zip(reversed(parts), stops):
+        within = Span(moved[-1].stop if moved else 0, stop)
+        moved.append(_moved(edit, part, further, within))
+        further += len(part.text) - part.count
+    return tuple(reversed(moved))
 
-    Of a span that changes too, these are the words that part its changes from those beside it, or
+
+def _moved(edit: _Edit, part: Correction, further: int, within: Span) -> Correction:
+    """A correction, or one that does the same elsewhere within a stretch if that leaves more marks.
+
+    Where it is, the new print stands so much further on.
+    """
+    marks = {
+        its
+        for its in (*edit.near, *edit.others)
+        if its.start <= within.stop and within.start <= its.stop
+    }
+
+    def harm(by: Correction) -> tuple[int, ...]:
+        touched = [its for its in marks if _is_touched(its, by)]
+        others = sum(its in edit.others for its in touched)
+        grown = sum(by.start < its.start or its.stop < by.stop for its in touched)
+        joined = sum(_is_joined(edit, its, by, further) for its in marks)
+        start = by.start + further
+        is_beside = {by.start, by.stop} <= edit.old.edges
+        is_there = {start, start + len(by.text)} <= edit.new.edges
+        far = abs(by.start - part.start)
+        return others, joined, len(touched), grown, not (is_beside and is_there), far
+
+    if part.count and part.text or not any(harm(part)[:4]):
+        return part
+    ends = {place for its in marks for place in its}
+    places = edit.old.edges | (edit.old.seams & ends)
+    same = [
+        by
+        for by in _same(edit, part, further, within)
+        if {by.start, by.stop} <= places
+        and {by.start + further, by.start + further + len(by.text)} <= edit.new.seams
+    ]
+    same.sort(key=lambda by: abs(by.start - part.start))
+    return min((part, *same[:_MOST_PLACES]), key=harm)
+
+
+def _same(
+    edit: _Edit, part: Correction, further: int, within: Span
+) -> Iterator[Correction]:
+    """The corrections that put in or take away as many characters within a stretch and do the same."""
+    text, start = edit.old.text, part.start
+    if part.text:
+        text, start = edit.new.text, start + further
+    size = len(part.text) or part.count
+    for step, most in ((-1, part.start - within.start), (1, within.stop - part.stop)):
+        for by in range(step, step * (most + 1), step):
+            last = start + min(by, by - step)
+            if text[last] != text[last + size]:
+                break
+            came = text[start + by : start + by + size] if part.text else ""
+            yield replace(part, start=part.start + by, text=came)
+
+
+def _stays(edit: _Edit) -> Iterator[_Stay]:
+    """The words of marks that stay as they are while others beside them change.
+
+    Of a mark that changes too, these are the words that part its changes from those beside it, or
     what stands between its words and those beside it, if as many words come in place of both.
     """
-    before, further, between = _further(old, new, least)
-    ends, new_ends = set(seams(old)), set(seams(new))
-    for span in spans:
-        its = [
-            word for word in before if word.start < span.stop and span.start < word.stop
-        ]
+    words = _words_of(edit)
+    further = {its: to.start - its.start for its, to in words.same}
+    between = [stay for run in words.changed for stay in _between(edit, run)]
+    for span in edit.near:
+        its = _overlapping(words.before, span)
+        if span.start == span.stop and not its:
+            yield from _beside(edit, words, span.start)
         if not its:
             continue
-        start, stop = min(its[0].start, span.start), max(its[-1].stop, span.stop)
-        by = further.get(its[0], 0)
-        is_seam = {start, stop} <= ends and {start + by, stop + by} <= new_ends
-        is_same = is_seam and old[start:stop] == new[start + by : stop + by]
-        if is_same and its[0] in further:
-            yield Span(start, stop), by
+        whole = Span(min(its[0].start, span.start), max(its[-1].stop, span.stop))
+        ways = [further[word] for word in its if word in further]
+        ways = [by for by in dict.fromkeys(ways) if _is_same(edit, whole, by)]
+        if ways:
+            yield whole, ways[0]
             continue
-        if least.start <= span.start:
-            up_to = [word for word in before if word.start <= its[0].start]
+        if edit.least.start <= span.start:
+            up_to = [word for word in words.before if word.start <= its[0].start]
             yield from _first(reversed(up_to), further)
-        if span.stop <= least.stop:
-            yield from _first(before[before.index(its[-1]) :], further)
+        if span.stop <= edit.least.stop:
+            after = words.before[words.before.index(its[-1]) :]
+            yield from _first(after, further)
         for gap, by in between:
             if gap.stop == its[0].start or gap.start == its[-1].stop:
                 yield gap, by
+
+
+def _overlapping(words: Sequence[Span], span: Span) -> Sequence[Span]:
+    """Those of some words, in their order, that have a character in a span or around it."""
+    first = bisect_right(words, span.start, key=lambda word: word.stop)
+    return words[first : bisect_left(words, span.stop, key=lambda word: word.start)]
+
+
+def _is_same(edit: _Edit, its: Span, by: int) -> bool:
+    """Whether a span of the print reads the same so much further on in the other one."""
+    old, new, there = edit.old, edit.new, Span(its.start + by, its.stop + by)
+    is_seam = set(its) <= old.seams and set(there) <= new.seams
+    if (
+        not is_seam
+        or old.text[its.start : its.stop] != new.text[there.start : there.stop]
+    ):
+        return False
+    # it is no part of another word there
+    return all(end not in old.edges or end + by in new.edges for end in its)
+
+
+def _beside(edit: _Edit, words: _Words, place: int) -> Iterator[_Stay]:
+    """The blanks, if any, between a place and a word beside it, where they stand beside that word still."""
+    old, new = edit.old.text, edit.new.text
+    for its, to in (*words.same, *chain.from_iterable(words.changed)):
+        by = to.stop - its.stop
+        gap = Span(its.stop, place)
+        if place <= its.start:
+            by = to.start - its.start
+            gap = Span(place, its.start)
+        between = old[gap.start : gap.stop]
+        there = gap.start + by
+        is_there = 0 <= there and new[there : there + len(between)] == between
+        if gap.start <= gap.stop and is_there and set(between) <= set(BLANKS):
+            yield gap, by
+            return
 
 
 def _first(words: Iterable[Span], further: Mapping[Span, int]) -> list[_Stay]:
@@ -113,67 +306,99 @@ def _first(words: Iterable[Span], further: Mapping[Span, int]) -> list[_Stay]:
     return [(word, further[word]) for word in words if word in further][:1]
 
 
-def _further(
-    old: str, new: str, least: Correction
-) -> tuple[list[Span], dict[Span, int], list[_Stay]]:
-    """The words that change or stand between such words; and those that stay, and how much further on.
-
-    With these, what stands as it did between words in place of which as many others come.
-    """
-    from difflib import SequenceMatcher  # which few edits need
-
+def _words_of(edit: _Edit) -> _Words:
+    """The words of an edit, those of marks put beside each other first."""
     # signs are no part of the words beside them, unless that takes too long
-    for is_of_word in (_is_of_letters, _is_no_blank):
-        before = _words(old, least.start, least.stop, is_of_word)
-        after = _words(new, least.start, least.start + len(least.text), is_of_word)
-        some = [old[word.start : word.stop] for word in before]
-        others = [new[word.start : word.stop] for word in after]
-        if _steps(some, others) <= _MOST_STEPS:
+    for is_of_word in (_is_of_letters, _is_no_blank, None):
+        before, after = _both_words(edit, is_of_word or _is_of_letters)
+        some = [edit.old.text[word.start : word.stop] for word in before]
+        others = [edit.new.text[word.start : word.stop] for word in after]
+        starts = _after_blanks(before), _after_blanks(after)
+        found = sure_matches(some, others, *starts, _marked(edit, before, some))
+        if is_of_word and steps(some, others, found) <= _MOST_STEPS:
+            found = list(finer(some, others, found))
             break
-    else:
-        return [], {}, []
-    further, between = dict[Span, int](), list[_Stay]()
-    matcher = SequenceMatcher(None, some, others, autojunk=False)
-    for what, one, stop, other, end in matcher.get_opcodes():
-        pairs = list(zip(before[one:stop], after[other:end]))
-        if what == "equal":
-            further |= {its: to.start - its.start for its, to in pairs}
-        elif stop - one == end - other:
-            between += _between(old, new, pairs)
-    return before, further, between
+    words = _Words(before, [], [])
+    for one, two, is_same in found:
+        pairs = list(zip(before[one.start : one.stop], after[two.start : two.stop]))
+        if is_same:
+            words.same.extend(pairs)
+        elif one.stop - one.start == two.stop - two.start:
+            words.changed.append(pairs)
+    return words
 
 
-def _between(old: str, new: str, pairs: Sequence[tuple[Span, Span]]) -> Iterator[_Stay]:
+def _both_words(
+    edit: _Edit, is_of_word: Callable[[str], bool]
+) -> tuple[list[Span], list[Span]]:
+    """The words that change in both prints, and those between them."""
+    its, there = _changing(edit)
+    before = _words(edit.old.text, its, is_of_word)
+    return before, _words(edit.new.text, there, is_of_word)
+
+
+def _changing(edit: _Edit) -> tuple[Span, Span]:
+    """What the smallest correction changes in both prints, up to the blanks beside it."""
+    old, by = edit.old, len(edit.new.text) - len(edit.old.text)
+    start, stop = edit.least.start, edit.least.stop
+    while start and not (old.text[start - 1] in BLANKS and start in old.seams):
+        start -= 1
+    while stop < len(old.text) and old.text[stop] not in BLANKS:
+        stop += 1
+    return Span(start, stop), Span(start, stop + by)
+
+
+def _marked(edit: _Edit, before: Sequence[Span], some: Sequence[str]) -> list[int]:
+    """Which words are marked; signs only where a mark is on nothing else."""
+    nths = {word: nth for nth, word in enumerate(before)}
+    marked = set[int]()
+    for span in edit.near:
+        its = [nths[word] for word in _overlapping(before, span)]
+        marked.update([nth for nth in its if not is_sign(some[nth])] or its)
+    return sorted(marked)
+
+
+def _after_blanks(words: Sequence[Span]) -> list[int]:
+    """Which words stand at no end of the one before."""
+    fronts = pairwise([None, *words])
+    return [n for n, (a, b) in enumerate(fronts) if not a or not b or a.stop < b.start]
+
+
+def _between(edit: _Edit, pairs: Sequence[_Pair]) -> Iterator[_Stay]:
     """What stands as it did between words of a print and those that come in place of them."""
     for (its, to), (after, to_after) in pairwise(pairs):
-        if old[its.stop : after.start] == new[to.stop : to_after.start]:
+        if (
+            edit.old.text[its.stop : after.start]
+            == edit.new.text[to.stop : to_after.start]
+        ):
             yield Span(its.stop, after.start), to.stop - its.stop
 
 
 def _is_of_letters(piece: str) -> bool:
-    return piece[0].isalnum()
+    """Whether a sequence is of a word with others; in some scripts each is a word of its own."""
+    letter = piece[0]
+    is_alone = letter > _MOST_WITH_BLANKS and any(
+        ord(letter) in each for each in _ALONE
+    )
+    return letter.isalnum() and not is_alone
 
 
 def _is_no_blank(piece: str) -> bool:
     return piece not in BLANKS
 
 
-def _words(
-    text: str, start: int, stop: int, is_of_word: Callable[[str], bool]
-) -> list[Span]:
-    """The words of a text, and its signs beside them, that have a character from one place to another."""
-    words, place = list[Span](), 0
+def _pieces(text: str, is_of_word: Callable[[str], bool]) -> Iterator[str]:
+    """The words of a text, and each sequence that is of none."""
     for is_word, run in groupby(sequences(text), is_of_word):
-        for piece in ["".join(run)] if is_word else run:
-            end = place + len(piece)
-            if piece not in BLANKS and place < stop and start < end:
-                words.append(Span(place, end))
-            place = end
+        yield from ["".join(run)] if is_word else run
+
+
+def _words(text: str, within: Span, is_of_word: Callable[[str], bool]) -> list[Span]:
+    """The words of a text, and its signs beside them, that have a character in a span."""
+    words, place = list[Span](), 0
+    for piece in _pieces(text, is_of_word):
+        end = place + len(piece)
+        if piece not in BLANKS and place < within.stop and within.start < end:
+            words.append(Span(place, end))
+        place = end
     return words
-
-
-def _steps(some: Sequence[str], others: Sequence[str]) -> int:
-    """How many steps it takes at most to put words beside others."""
-    counts = Counter(others)
-    pairs = sum(counts[word] for word in some)
-    return sum(word in counts for word in some) * (len(some) + pairs)
