@@ -51,6 +51,48 @@ def test_a_mark_between_stays_on_its_words_and_u_takes_all_of_it_back(
         assert marked(session) == ("moon", False)
 
 
+@pytest.mark.parametrize("by", [None, "anna"])
+def test_a_word_that_comes_before_a_marked_one_that_begins_as_it_does_is_put_beside_it(
+    moon: Path, sit: Sit, by: str | None
+) -> None:
+    sat = sit(moon, by)
+    sat.press("enter", "home", *["right"] * 4)
+    sat.write("moony ")
+    sat.press("enter")
+    assert sat.state.kept == "kept: correction 2 of paragraph 1"
+    assert sat.state.reading
+    assert sat.state.reading.text == "The moony moon is far away."
+    (its,) = sat.state.reading.marks
+    assert (its.start, its.stop, its.touched) == (10, 14, False)
+    sat.press("u")
+    assert sat.state.reading and sat.state.reading.text == BEFORE
+    sat.desk.close()
+    with once_free(moon) as session:
+        came, _ = session.history_of(1)[1:]
+        assert came == Entry(2, Kind.CORRECT, 4, 0, "moony ", by, None)
+        (mark,) = session.marks_of(1)
+        assert (mark.start, mark.stop, mark.touched) == (4, 8, False)
+
+
+def test_of_two_words_that_are_the_same_the_one_goes_that_has_no_mark(
+    moon: Path, sit: Sit
+) -> None:
+    with Session(moon) as session:
+        session.correct(1, 4, 0, "moon ")
+    sat = sit(moon)
+    sat.press("enter", "home", *["right"] * 9, *["delete"] * 5)
+    sat.press("end")
+    sat.write(" Don't go, it's late.")
+    sat.press("enter")
+    now = f"{BEFORE} Don't go, it's late."
+    assert sat.state.reading and sat.state.reading.text == now
+    sat.desk.close()
+    with once_free(moon) as session:
+        assert session.print_of(1) == now
+        (mark,) = session.marks_of(1)
+        assert (mark.start, mark.stop, mark.touched) == (4, 8, False)
+
+
 def test_lines_that_are_pasted_into_it_leave_the_mark_on_its_words_too(
     moon: Path, sit: Sit
 ) -> None:
@@ -165,6 +207,28 @@ def test_a_line_after_it_that_reads_as_the_newest_paragraph_is_not_lost_with_a_s
     sat.press("y", "enter", "escape")
     sat.desk.close()
     with once_free(moon) as session:
+        assert [p.id for p in session.paragraphs()] == [1, 4, 2, 3]
+        assert session.print_of(4) == newest
+
+
+def test_it_is_not_lost_either_where_there_are_more_corrections_beside_one_mark(
+    moon: Path, sit: Sit, monkeypatch: pytest.MonkeyPatch
+) -> None:
+    now, newest = "A sun was far gone!", "Twice a day the sea comes up."
+    with monkeypatch.context() as patched:
+        for name, value in standing_in(4, KEPT, KILL_PROGRAM).items():
+            patched.setenv(name, value)
+        sat = sit(moon)
+        sat.press("enter", "home", *["delete"] * len(BEFORE))
+        patched.undo()
+        sat.state = sat.desk.paste(sat.state, f"{now}\n{newest}\n")
+        sat.press("y")
+    assert sat.state.reading and sat.state.reading.text == now
+    assert sat.state.question and newest in sat.state.question.sentence
+    sat.press("y", "enter", "escape")
+    sat.desk.close()
+    with once_free(moon) as session:
+        assert len(session.history_of(1)) == 5
         assert [p.id for p in session.paragraphs()] == [1, 4, 2, 3]
         assert session.print_of(4) == newest
 

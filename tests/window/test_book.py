@@ -412,6 +412,21 @@ def marked(book: OpenBook) -> OpenBook:
     return book
 
 
+@pytest.mark.parametrize(
+    "front, back", [("The monk ", " is far away."), ("A mon, a monk, a ", " far.")]
+)
+def test_a_word_that_comes_before_a_marked_one_and_begins_as_it_does_is_put_beside_it(
+    book: OpenBook, front: str, back: str
+) -> None:
+    reading = book.reading(book.contents().paragraphs[1])
+    words = reading.its.text[4:7]
+    assert book.corrected(reading, f"{front}{words}{back}") is not None
+    assert book.session.print_of(2) == f"{front}{words}{back}"
+    (mark,) = book.session.marks_of(2)
+    place = len(front)
+    assert (mark.start, mark.stop, mark.touched) == (place, place + 3, False)
+
+
 def test_an_edit_leaves_a_mark_between_on_its_words_and_is_taken_back_as_one(
     marked: OpenBook,
 ) -> None:

@@ -185,9 +185,11 @@ def _moved(edit: _Edit, part: Correction, further: int, within: Span) -> Correct
 
     Where it is, the new print stands so much further on.
     """
+    if part.count and part.text:
+        return part
     marks = {
         its
-        for its in (*edit.near, *edit.others)
+        for its in chain(edit.near, edit.others)
         if its.start <= within.stop and within.start <= its.stop
     }
 
@@ -202,7 +204,7 @@ def _moved(edit: _Edit, part: Correction, further: int, within: Span) -> Correct
         far = abs(by.start - part.start)
         return others, joined, len(touched), grown, not (is_beside and is_there), far
 
-    if part.count and part.text or not any(harm(part)[:4]):
+    if not any(harm(part)[:4]):
         return part
     ends = {place for its in marks for place in its}
     places = edit.old.edges | (edit.old.seams & ends)

@@ -105,8 +105,8 @@ def _corrections(session: Session, draft: Draft) -> int:
     if draft.aim is not Aim.EDIT or number is None:
         return 1
     entries, wanted = session.history_of(number), composed(draft.first_line)
-    # beside each mark there are two at most
-    for count in range(1, min(len(entries), 2 * len(session.marks_of(number)) + 1) + 1):
+    # beside each mark there are four at most
+    for count in range(1, min(len(entries), 4 * len(session.marks_of(number)) + 1) + 1):
         text = draft.before
         for each in entries[-count:]:
             text = text[: each.start] + each.text + text[each.start + each.count :]

@@ -29,10 +29,11 @@ def sure_matches(
     """
     its = [bisect_right(starts, nth) - 1 for nth in marked]
     wholes, other_wholes = _wholes(some, starts), _wholes(others, other_starts)
+    ends, other_ends = [*starts, len(some)], [*other_starts, len(others)]
     found = list[Match]()
     for run, other, is_same in _sure_first(wholes, other_wholes, dict.fromkeys(its)):
-        one = Span(*([*starts, len(some)][place] for place in run))
-        two = Span(*([*other_starts, len(others)][place] for place in other))
+        one = Span(ends[run.start], ends[run.stop])
+        two = Span(other_ends[other.start], other_ends[other.stop])
         if is_same:
             found.append((one, two, True))
             continue

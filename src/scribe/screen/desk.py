@@ -899,7 +899,7 @@ class Desk:
         return refreshed(self._session, state)
 
     def _parts(self, state: State, command: Command[Any]) -> tuple[Command[Any], ...]:
-        """A command, or the corrections by which an edit leaves marks between on their words.
+        """A command, or the corrections by which an edit leaves marks on their words.
 
         They are sent one after the other, if the table has cells for each print on the way.
         """
@@ -910,7 +910,7 @@ class Desk:
         now = whole.applied(its.text)
         found = corrections(its.text, now, its.marks)
         prints = [*prints_between(its.text, found), now]
-        if len(found) < 2 or self.tables.first_fault(its.paragraph.table, prints):
+        if not found or self.tables.first_fault(its.paragraph.table, prints):
             return (command,)
         return tuple(
             replace(
