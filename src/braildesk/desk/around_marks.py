@@ -242,35 +242,51 @@ def _stays(edit: _Edit) -> Iterator[_Stay]:
     what stands between its words and those beside it, if as many words come in place of both.
     """
     words = _words_of(edit)
-    further = {its: to.start - its.start for its, to in words.same}
+    before, further = words.before, {
+        its: to.start - its.start for its, to in words.same
+    }
+    up_to = list(_nearest(before, further))
+    after = list(_nearest(reversed(before), further))[::-1]
     between = [stay for run in words.changed for stay in _between(edit, run)]
+    ahead, behind = ({gap[0][n]: gap for gap in between} for n in (1, 0))
     for span in edit.near:
-        its = _overlapping(words.before, span)
-        if span.start == span.stop and not its:
-            yield from _beside(edit, words, span.start)
+        first, end = _overlapped(before, span)
+        its = before[first:end]
         if not its:
+            if span.start == span.stop:
+                yield from _beside(edit, words, span.start)
             continue
         whole = Span(min(its[0].start, span.start), max(its[-1].stop, span.stop))
-        ways = [further[word] for word in its if word in further]
-        ways = [by for by in dict.fromkeys(ways) if _is_same(edit, whole, by)]
-        if ways:
-            yield whole, ways[0]
+        ways = dict.fromkeys(further[word] for word in its if word in further)
+        by = next((by for by in ways if _is_same(edit, whole, by)), None)
+        if by is not None:
+            yield whole, by
             continue
         if edit.least.start <= span.start:
-            up_to = [word for word in words.before if word.start <= its[0].start]
-            yield from _first(reversed(up_to), further)
+            yield from up_to[first]
         if span.stop <= edit.least.stop:
-            after = words.before[words.before.index(its[-1]) :]
-            yield from _first(after, further)
-        for gap, by in between:
-            if gap.stop == its[0].start or gap.start == its[-1].stop:
-                yield gap, by
+            yield from after[end - 1]
+        yield from (
+            gaps[place]
+            for gaps, place in ((ahead, its[0].start), (behind, its[-1].stop))
+            if place in gaps
+        )
 
 
-def _overlapping(words: Sequence[Span], span: Span) -> Sequence[Span]:
-    """Those of some words, in their order, that have a character in a span or around it."""
+def _nearest(
+    words: Iterable[Span], further: Mapping[Span, int]
+) -> Iterator[list[_Stay]]:
+    """For each of some words that one or the last one before it that stays, if one does."""
+    found = list[_Stay]()
+    for word in words:
+        found = [(word, further[word])] if word in further else found
+        yield found
+
+
+def _overlapped(words: Sequence[Span], span: Span) -> tuple[int, int]:
+    """Which of some words, in their order, have a character in a span or around it."""
     first = bisect_right(words, span.start, key=lambda word: word.stop)
-    return words[first : bisect_left(words, span.stop, key=lambda word: word.start)]
+    return first, bisect_left(words, span.stop, key=lambda word: word.start)
 
 
 def _is_same(edit: _Edit, its: Span, by: int) -> bool:
@@ -301,11 +317,6 @@ def _beside(edit: _Edit, words: _Words, place: int) -> Iterator[_Stay]:
         if gap.start <= gap.stop and is_there and set(between) <= set(BLANKS):
             yield gap, by
             return
-
-
-def _first(words: Iterable[Span], further: Mapping[Span, int]) -> list[_Stay]:
-    """The first of some words that stays, if one does."""
-    return [(word, further[word]) for word in words if word in further][:1]
 
 
 def _words_of(edit: _Edit) -> _Words:
@@ -352,10 +363,9 @@ def _changing(edit: _Edit) -> tuple[Span, Span]:
 
 def _marked(edit: _Edit, before: Sequence[Span], some: Sequence[str]) -> list[int]:
     """Which words are marked; signs only where a mark is on nothing else."""
-    nths = {word: nth for nth, word in enumerate(before)}
     marked = set[int]()
     for span in edit.near:
-        its = [nths[word] for word in _overlapping(before, span)]
+        its = range(*_overlapped(before, span))
         marked.update([nth for nth in its if not is_sign(some[nth])] or its)
     return sorted(marked)
 
