@@ -3,6 +3,7 @@
 import os
 import shutil
 import signal
+import sys
 from collections.abc import Callable, Iterator, Sequence
 from pathlib import Path
 from typing import Any
@@ -444,6 +445,39 @@ def test_another_book_that_came_after_a_session_ended_is_not_said_to_be_this_one
     assert "The file that is at the path now is open, at version 5." in (
         desk.window.message.text
     )
+
+
+def test_of_a_text_by_a_table_that_the_book_lacks_it_is_said_that_there_is_no_preview(
+    desk: Desk,
+    application: QApplication,
+    moon: Path,
+    monkeypatch: pytest.MonkeyPatch,
+) -> None:
+    failed: list[object] = []
+    monkeypatch.setattr(sys, "excepthook", lambda kind, fault, _: failed.append(fault))
+    other = moon.with_name("other.braildesk")
+    new_book(
+        other,
+        holding=[requests.Supply("de"), requests.Type("end", "de", "Es war.")],
+    )
+    desk.act("new_after")
+    desk.window.print.insertPlainText("It rose.")
+    other.replace(moon)
+    os.kill(desk.book.pid, signal.SIGKILL)
+    desk.act("keep")
+    assert desk.is_closed
+    # it goes with the book that is gone
+    Path(f"{moon}-wal").unlink(missing_ok=True)
+    desk.act("open_again")
+    assert desk.window.print.text == "It rose."
+    said = "There is no preview. The book has no table en. "
+    here = desk.window.here
+    assert wait(application, 60, lambda: here.text.startswith(said) or bool(failed))
+    assert failed == []
+    desk.act("notation")
+    tables = desk.book.tables
+    assert desk.ahead.result(lambda: tables.first_fault("en", ["It rose."])) == ""
+    desk.act("give_up")
 
 
 def test_lines_that_were_not_typed_yet_wait_if_the_window_is_ended(

@@ -66,6 +66,9 @@ class Tables:
         return ""
 
     def _answers(self, name: str, texts: Sequence[str]) -> list[str | Refused]:
+        if name not in self._tables:
+            # it was typed in another book, which was at the path before
+            raise DeskError(f"The book has no table {name}.")
         table, look = self._tables[name] or _SUPPLIED, self._while_waiting
         return translate(table, texts, while_waiting=look)
 
