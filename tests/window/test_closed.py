@@ -800,6 +800,24 @@ def test_that_what_was_typed_is_taken_back_is_said_where_the_print_has_no_focus(
     assert (field.text, message.text) == ("The Moon", "")
 
 
+def test_that_what_was_typed_is_taken_back_is_said_until_it_is_typed_again(
+    desk: Desk,
+) -> None:
+    field, message = desk.window.print, desk.window.message
+    desk.act("to_print")
+    field.insertPlainText("So: ")
+    desk.act("to_paragraphs")
+    desk.act("take_back")
+    assert (field.text, message.text) == (
+        "The Moon",
+        "Taken back: what was typed last.",
+    )
+    desk.act("to_print")
+    field.redo()
+    assert (field.text, message.text) == ("So: The Moon", "")
+    desk.act("give_up")
+
+
 def test_once_something_else_was_done_the_newest_correction_is_taken_back(
     desk: Desk,
 ) -> None:

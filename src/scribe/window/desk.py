@@ -1519,6 +1519,7 @@ class Desk:
             if self.window.focusWidget() is not field:
                 # else a screen reader says what goes from the print
                 self.say(_TYPED_IS_BACK)
+                self.until_typed()
             return
         said = self.given_up(before)
         self._said_of_put_in = visible(said)
