@@ -1209,3 +1209,31 @@ def test_a_window_that_is_told_to_end_once_its_book_is_gone_says_where_all_of_it
     told = said.decode()
     assert "What was reported as kept is in the book" not in told
     assert str(saved) in "".join(told.split("\n"))
+
+
+@pytest.mark.parametrize("typed", ["", "It rose. "])
+@pytest.mark.parametrize("is_other", [False, True])
+def test_a_window_that_is_told_to_end_says_that_its_file_is_gone_where_nothing_was_kept(
+    moon: Path, at: Open, typed: str, is_other: bool
+) -> None:
+    window = at(moon)
+    if typed:
+        window.press("F2")
+        window.focus("text", "Print")
+        window.type(typed)
+        window.reads("Print", f"{typed}The Moon")
+    what = "it was removed or moved while it was open."
+    if is_other:
+        what = "another one was put there while it was open."
+        shutil.copyfile(moon, other := moon.with_name("other.braildesk"))
+        other.replace(moon)
+    else:
+        moon.unlink()
+    window.program.send_signal(signal.SIGTERM)
+    shown, said = window.program.communicate(timeout=120)
+    assert (window.program.returncode, shown) == (-signal.SIGTERM, b"")
+    waits = " What was typed and isn't in the book is kept, and is offered when it is next opened."
+    assert " ".join(said.decode().split()) == (
+        f"Stopped by SIGTERM. The file of the book is no longer at “{moon}”: {what} Nothing was"
+        f" changed in it here.{waits * bool(typed)}"
+    )

@@ -169,12 +169,15 @@ class Application:
             cause = Interrupted(self._ended_by)
         self.waits = desk.waits_at_once()
         if cause is not None:
-            kept = (
-                "" if isinstance(cause, Lost) else self.loss or _KEPT * bool(self.waits)
-            )
+            kept = "" if isinstance(cause, Lost) else self._kept
             if said := f"{kept} {self.waits}".strip():
                 cause.add_note(said)
             raise cause
+
+    @property
+    def _kept(self) -> str:
+        """What is so of the book as a signal or a fault ends its window, if that has to be said here."""
+        return self.loss or self._desk.strayed or _KEPT * bool(self.waits)
 
     def _show(self) -> None:
         desk = self._desk

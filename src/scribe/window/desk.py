@@ -1228,6 +1228,12 @@ class Desk:
         waits = draft or held or (self._is_offering and self.unsent.waiting)
         return _WAITS if waits else ""
 
+    @property
+    def strayed(self) -> str:
+        """What became of the file of a book in which nothing was kept, once its session is closed."""
+        strayed = self.book.session.strayed
+        return f"{strayed} Nothing was changed in it here." if strayed else ""
+
     def end_at_once(self) -> str:
         """Ends the session once nothing can be shown, and says what is so of a book that was lost."""
         self.is_ending = True
@@ -1240,8 +1246,8 @@ class Desk:
             if session.lost is not None:
                 self._follow(session.lost)
                 said.append(session.lost.sentence)
-            elif session.strayed:
-                said.append(f"{session.strayed} Nothing was changed in it here.")
+            else:
+                said.append(self.strayed)
 
         if not self.loss:
             self.work.at_once(end, _ENDING_SECONDS)
