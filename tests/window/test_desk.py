@@ -820,6 +820,30 @@ def test_where_no_page_can_be_shown_it_is_said_why(
     monkeypatch.undo()
 
 
+def test_of_a_paragraph_on_no_page_it_is_said_why_it_is_on_none(
+    application: QApplication, desk: Desk
+) -> None:
+    desk.window.show()
+    desk.do(requests.Strike(2))
+    desk.do(requests.Correct(3, 0, 29, ""))
+
+    def says(why: str) -> None:
+        desk.act("page")
+        assert desk.window.message.text == why
+        assert wait(application, 60, lambda: _on_page(desk) == why)
+        desk.act("page")
+
+    for row, why in (
+        (1, "Paragraph 2 is struck, and stands on no page."),
+        (2, "Paragraph 3 has no words, and takes no line."),
+    ):
+        desk.choose(row)
+        says(why)
+    desk.window.print.insertPlainText("So")
+    says("Paragraph 3 has no words in the book yet, so it is on no page.")
+    desk.act("give_up")
+
+
 def test_no_page_is_shown_of_a_book_that_was_changed_meanwhile(
     application: QApplication, desk: Desk, monkeypatch: pytest.MonkeyPatch
 ) -> None:

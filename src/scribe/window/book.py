@@ -645,8 +645,7 @@ class OpenBook:
         its, version = sought.paragraph, contents.version
         volume = pagelook.volume_of(contents.paragraphs, version, page_size, its)
         if volume is None:
-            said = f"Paragraph {its.id} is struck, and stands on no page."
-            return pagelook.Page(said)
+            return pagelook.Page(struck_on_no_page(its.id))
         is_laid = self._laid is not None and self._laid.is_of(volume)
         if volume.is_long and not is_asked and not is_laid:
             return pagelook.Page(_LONG)
@@ -703,7 +702,7 @@ class OpenBook:
         (its, cell), book, version = here, contents.paragraphs, contents.version
         volume = pagelook.volume_of(book, version, page_size, its)
         if volume is None:
-            return f"Paragraph {its.id} is struck, and stands on no page."
+            return struck_on_no_page(its.id)
         count = len(pagelook.volumes_of(book, version, page_size))
 
         def report(done: int, whole: int) -> None:
@@ -859,6 +858,11 @@ class OpenBook:
             case requests.Retable():
                 return replace(its, table=command.table)
         return None
+
+
+def struck_on_no_page(number: int) -> str:
+    """Why a paragraph that is struck stands on no page."""
+    return f"Paragraph {number} is struck, and stands on no page."
 
 
 def _with_backs(

@@ -31,7 +31,7 @@ from braildesk.desk.drafts import Drafts, LeftAt, NotKept
 from braildesk.desk.highlighting import Highlighted
 from braildesk.desk.layout import PageSize
 from braildesk.protocol.requests import Command
-from braildesk.text.cells import braille_ascii, braille_patterns
+from braildesk.text.cells import EMPTY_CELL, braille_ascii, braille_patterns
 from braildesk.text.characters import code_and_name, visible
 from braildesk.text.sequences import composed
 from braildesk.text.spans import Span
@@ -46,6 +46,7 @@ from scribe.window.book import (
     Opening,
     ChosenParagraph,
     PartKept,
+    struck_on_no_page,
 )
 from scribe.window.dialogs import IsStopped, Say, ask, offer
 from scribe.window.fields import LINE_END
@@ -71,6 +72,7 @@ from scribe.words.drafts import (
     typed_there,
     what_for,
 )
+from scribe.words.pages import no_line
 from scribe.words.paragraph import counted, mark_line, quoted, title
 from scribe.words.preview import Preview
 from scribe.words.status import Interrupted, Stop, in_sentences
@@ -83,6 +85,7 @@ NO_PARAGRAPH = "The book has no paragraph yet. Ctrl+Enter begins one."
 STRUCK = "is struck. Ctrl+D restores it, so that it can be changed."
 CLOSED = "The book is closed: Open the book again, in the menu Book, opens it."
 _ON_NO_PAGE = "The new paragraph isn't in the book yet, so it is on no page."
+_NO_WORDS_YET = "Paragraph {} has no words in the book yet, so it is on no page."
 _GONE = "The book is closed: Its file isn't at “{path}” any more. {then}"
 _THEN = "Open the book again, in the menu Book, opens it once it is there again."
 _LAST_IS_IN_IT = "What was typed last is in it."
@@ -1052,9 +1055,17 @@ class Desk:
     @property
     def why_no_page(self) -> str:
         """Why there is no page of the caret, or nothing."""
-        if self.is_closed or self.new is None and self.reading is None:
+        if self.new is not None and not self.is_closed:
+            return _ON_NO_PAGE
+        if self.is_closed or self.reading is None:
             return self.no_paragraph
-        return _ON_NO_PAGE if self.new is not None else ""
+        its = self.reading.its
+        number = its.paragraph.id
+        if its.paragraph.struck:
+            return struck_on_no_page(number)
+        if its.braille.strip(EMPTY_CELL):
+            return ""
+        return _NO_WORDS_YET.format(number) if self.is_typed() else no_line(number)
 
     def _show_why(self, why: str) -> None:
         """Has it stand in place of a page why there is none, also if one is being laid out."""
