@@ -709,6 +709,33 @@ def test_what_waits_is_all_said_at_the_opening(desk: Desk) -> None:
     )
 
 
+@pytest.mark.parametrize(
+    "answer, said",
+    [
+        (0, ""),
+        (1, f"{GIVEN_UP} "),
+        (
+            2,
+            "The text waits. Ctrl+B asks about it, and so does an opening at which no newer one"
+            " waits. ",
+        ),
+    ],
+)
+def test_what_waits_besides_a_text_that_is_asked_about_is_said_once(
+    desk: Desk, given: Answers, answer: int, said: str
+) -> None:
+    drafts = Drafts(desk.path)
+    drafts.save(EDIT)
+    drafts.keep_words("sea", "ocean")
+    given["choices"] = [answer]
+    desk.acting(Actions(desk).offer)
+    assert desk.window.message.text == (
+        f"{said}“sea” was to be changed to “ocean”, which may not be done. Ctrl+H has the words"
+        " still."
+    )
+    desk.act("give_up")
+
+
 def _ends_each_time(desk: Desk, monkeypatch: pytest.MonkeyPatch, name: str) -> None:
     """Has the session end each time that it is asked for something."""
     ask = getattr(desk.book, name)

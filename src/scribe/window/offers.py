@@ -11,6 +11,7 @@ from braildesk.desk.drafts import NotKept
 from braildesk.desk.earlier import PartIsThere, to_go_on
 from braildesk.desk.import_note import ImportNote
 from braildesk.desk.unfinished import NotSeen, Unfinished
+from braildesk.text.characters import visible
 
 from scribe.window.changing import Changing
 from scribe.window.desk import Desk
@@ -61,7 +62,8 @@ class Offers:
         waiting = desk.unsent.waiting
         if waiting is not None:
             self._offer_first(waiting)
-            desk.say_too(notices)
+            if visible(notices) not in desk.window.message.text:
+                desk.say_too(notices)
         contents = desk.contents
         for each in self._to_go_on(contents.paragraphs):
             match each:
