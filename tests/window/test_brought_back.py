@@ -378,6 +378,10 @@ def test_what_is_typed_is_not_taken_back_as_the_newest_correction(
     )
     assert desk.window.print.text == typed
     assert desk.asked(desk.book.contents).version == version
+    # until something else is typed
+    desk.act("to_print")
+    desk.act("take_back")
+    assert desk.window.message.text == ""
     desk.act("give_up")
 
 

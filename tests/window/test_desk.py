@@ -474,6 +474,11 @@ def test_that_no_table_can_be_chosen_while_a_refused_text_is_typed_is_said(
         ("keep", 1, "The print reads as before, so there is nothing to keep."),
         ("take_back", 1, "There is nothing that Ctrl+Z could take back."),
         ("take_back", 2, "Again: There is nothing that Ctrl+Z could take back."),
+        (
+            "undo_here",
+            1,
+            "Paragraph 1 has no correction that could be taken back. Nothing was changed.",
+        ),
     ],
 )
 def test_what_is_said_of_what_is_typed_is_said_until_something_else_is_typed(

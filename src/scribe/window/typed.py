@@ -189,9 +189,16 @@ class Typed:
             return
         if desk.draft() is not None:
             # it would be that correction
-            raise Stop(_NOT_YET)
+            desk.refuse(_NOT_YET)
+            desk.until_typed()
+            return
         number = desk.settled()
-        desk.do(requests.Undo(number))
+        try:
+            desk.do(requests.Undo(number))
+        except Refused as refused:
+            desk.refuse(refused.sentence)
+            desk.until_typed()
+            return
         # as above
         desk.link(True)
 
