@@ -2,6 +2,7 @@
 
 import shutil
 from collections.abc import Callable, Iterator, Sequence
+from dataclasses import replace
 from pathlib import Path
 from typing import Any
 
@@ -239,6 +240,31 @@ def test_a_text_that_waits_is_known_again_in_the_book(
 ) -> None:
     book.done(requests.Type(1, "en", "One."))
     assert book.where_kept(book.contents(), draft) == where
+
+
+@pytest.mark.parametrize(
+    "draft, struck, where",
+    [
+        (Draft(Aim.AFTER, 1, "en", "", "One."), [4], "as paragraph 4, which is struck"),
+        (Draft(Aim.AFTER, 1, "en", "", "One."), [1], "as paragraph 4"),
+        (Draft(Aim.EDIT, 2, "en", "x", MON), [2], "in paragraph 2, which is struck"),
+        (
+            Draft(
+                Aim.AFTER, 1, "en", "", f"{MON}\nTwice a day the sea comes up.\nOne."
+            ),
+            [3],
+            "as the paragraphs 2 to 4, some of which are struck",
+        ),
+    ],
+)
+def test_that_a_paragraph_is_struck_is_said_where_a_text_that_waits_is_known_again(
+    book: OpenBook, draft: Draft, struck: Sequence[int], where: str
+) -> None:
+    book.done(requests.Type(1, "en", "One."))
+    for number in struck:
+        book.done(requests.Strike(number))
+    waits = replace(draft, version=3)
+    assert book.where_kept(book.contents(), waits) == where
 
 
 def test_nothing_is_taken_back_after_another_program_changed_the_book(

@@ -753,7 +753,8 @@ class OpenBook:
         numbers = [each.id for each in contents.paragraphs]
         if draft.aim.is_new:
             count = lines_kept(self._session, draft, contents.version, numbers)
-            return as_paragraphs(numbers, count)
+            where, newest = as_paragraphs(numbers, count), sorted(numbers)[-count:]
+            return where and where + _which_is_struck(contents, newest)
         number = draft.paragraph if draft.paragraph in numbers else None
         if number is None:
             return ""
@@ -761,8 +762,9 @@ class OpenBook:
             mark = mark_kept(self._session, draft)
             return f"as mark {mark.id}" if mark is not None else ""
         text = composed(draft.first_line)
-        is_there = composed(self._session.print_of(number)) == text
-        return f"in paragraph {number}" if is_there else ""
+        if composed(self._session.print_of(number)) != text:
+            return ""
+        return f"in paragraph {number}{_which_is_struck(contents, [number])}"
 
     def reads_the_same(self, contents: Contents, draft: Draft) -> int | None:
         """The paragraph that reads as a text that waits, if the book got one since."""
@@ -873,3 +875,13 @@ def _with_backs(
         if isinstance(each, Change):
             backs.insert(0, requests.Undo(each.paragraph))
         yield each
+
+
+def _which_is_struck(contents: Contents, numbers: Sequence[int]) -> str:
+    """That paragraphs are struck which have a text, after where that is; or nothing."""
+    their = [each.struck for each in contents.paragraphs if each.id in numbers]
+    if not any(their):
+        return ""
+    if len(their) == 1:
+        return ", which is struck"
+    return ", which are struck" if all(their) else ", some of which are struck"
