@@ -9,7 +9,7 @@ from braildesk import Session
 from scribe.window import choosing, dialogs
 
 from conftest import Open
-from reader import Reader
+from reader import Part, Reader, all_within
 
 
 def asked(at: Open) -> Reader:
@@ -18,6 +18,12 @@ def asked(at: Open) -> Reader:
     dialog = window.dialog("braildesk")
     window.part("label", "Which book shall be opened?", dialog)
     return window
+
+
+def _is_in_label(top: Part, words: str) -> bool:
+    """Whether a label of a dialog has some words."""
+    labels = (e for e in all_within(top) if e.get_role_name() == "label")
+    return any(words in each.get_name() for each in labels)
 
 
 def test_a_book_is_asked_for_and_opened(at: Open, moon: Path) -> None:
@@ -70,6 +76,28 @@ def test_a_text_that_is_typed_on_where_a_book_is_asked_for_is_no_answer(
     label = f"Which book shall be opened?\n\n{said}"
     window.part("label", label, window.dialog("braildesk"))
     window.press("Return")
+    shown, errors = window.program.communicate()
+    assert (window.program.returncode, shown, errors) == (0, b"", b"")
+
+
+def test_a_text_that_is_typed_on_where_no_book_can_be_made_closes_nothing_by_its_enter(
+    at: Open, moon: Path
+) -> None:
+    window = asked(at)
+    window.press("Alt+n")
+    dialog = window.dialog("New book")
+    window.insert_in(window.first("text", dialog), str(moon))
+    window.press("Return")
+    top = window.dialog("braildesk")
+    window.until("the reason", lambda: _is_in_label(top, str(moon)))
+    window.type("could be")
+    window.press("Return")
+    said = "What is typed here goes nowhere. Enter closes this."
+    window.until("what is said", lambda: _is_in_label(top, said))
+    assert window.part("push button", "Close", top).get_description() == said
+    window.press("Return")
+    window.dialog("New book")
+    window.press("Escape")
     shown, errors = window.program.communicate()
     assert (window.program.returncode, shown, errors) == (0, b"", b"")
 

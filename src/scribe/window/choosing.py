@@ -7,11 +7,13 @@ from braildesk.desk.tables import first_table
 from braildesk.text.characters import visible
 
 from scribe.window import dialogs
+from scribe.window.typed_on import taking_at_sentence
 from scribe.words.status import Stop, in_sentences
 
 _TITLE = "braildesk"
 _ENDING = ".braildesk"
 _BOOKS = f"Books (*{_ENDING});;All files (*)"
+_FOR_NONE = "What is typed here goes nowhere. Enter closes this."
 
 
 def chosen_book() -> Path | None:
@@ -40,7 +42,8 @@ def _new_book() -> Path | None:
             return first
         except (DeskError, Stop) as failed:
             said = visible(failed.sentence)
-            dialogs.offer(None, _TITLE, said, ("&Close",), _kept_nowhere)
+            with taking_at_sentence(_kept_nowhere, _FOR_NONE):
+                dialogs.choice(None, _TITLE, said, ("&Close",))
 
 
 def _kept_nowhere(typed: str) -> None:

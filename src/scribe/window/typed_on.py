@@ -74,9 +74,11 @@ def taking_at_progress(typed: Callable[[str], None]) -> AbstractContextManager[N
     return _Blind(typed, _READING_SECONDS, least=1).taking()
 
 
-def taking_at_sentence(typed: Callable[[str], None]) -> AbstractContextManager[None]:
+def taking_at_sentence(
+    typed: Callable[[str], None], said: str = _NOT_HERE
+) -> AbstractContextManager[None]:
     """The same at a sentence that stands in place of a window, and that its one button closes."""
-    return _BlindAtSentence(typed).taking()
+    return _BlindAtSentence(typed, said).taking()
 
 
 class _Blind(QObject):
@@ -272,7 +274,9 @@ class _Blind(QObject):
 class _BlindAtSentence(_Blind):
     """The same at one button, which has the focus already, and takes it anew so that it is heard."""
 
-    _no_answer = _NOT_HERE
+    def __init__(self, typed: Callable[[str], None], said: str) -> None:
+        super().__init__(typed)
+        self._no_answer = said
 
     def _say(self, to: QWidget) -> None:
         to.clearFocus()
