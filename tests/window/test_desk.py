@@ -695,6 +695,25 @@ def test_the_carets_stay_where_they_are_as_cells_are_shown_otherwise(
     assert _carets(desk) == before
 
 
+@pytest.mark.parametrize("act", ["to_cells", "to_print"])
+def test_what_is_selected_in_the_braille_stays_so_as_cells_are_shown_otherwise(
+    desk: Desk, act: str
+) -> None:
+    desk.choose(1)
+    desk.act("to_cells")
+    cells = desk.window.cells
+    cells.put_caret(3)
+    cursor = cells.textCursor()
+    cursor.setPosition(7, cursor.MoveMode.KeepAnchor)
+    cells.setTextCursor(cursor)
+    desk.act(act)
+    before = desk.window.print.place
+    for _ in range(2):
+        desk.act("notation")
+        assert (cells.selected, cells.place) == (Span(3, 7), 7)
+        assert desk.window.print.place == before
+
+
 def test_the_carets_stay_at_what_was_typed_once_it_is_taken_back_from_the_braille(
     desk: Desk, application: QApplication
 ) -> None:

@@ -754,10 +754,7 @@ class Desk:
         self._is_showing = True
         try:
             field.show_text(before)
-            cursor = field.textCursor()
-            cursor.setPosition(anchor)
-            cursor.setPosition(position, cursor.MoveMode.KeepAnchor)
-            field.setTextCursor(cursor)
+            field.select_from(anchor, position)
         finally:
             self._is_showing = False
         self.keep_draft(self.draft())
@@ -817,12 +814,18 @@ class Desk:
     def show_cells(self) -> None:
         """Shows the cells of the paragraph, or of what is typed, as they are shown now."""
         cells, text = self.window.cells, self.shown(self.braille)
-        place = cells.place
+        place, cursor = cells.place, cells.textCursor()
+        anchor, position = cursor.anchor(), cursor.position()
+        is_selected = anchor != position and len(text) == len(cells.text)
         self._is_showing = True
         cells.show_text(text)
         cells.put_caret(place)
         self._is_showing = False
         self.link()
+        if is_selected:
+            self._is_showing = True
+            cells.select_from(anchor, position)
+            self._is_showing = False
 
     @property
     def braille(self) -> str:

@@ -226,6 +226,13 @@ class Field(QPlainTextEdit):
         cursor.setPosition(units(text, span.start), QTextCursor.MoveMode.KeepAnchor)
         self.setTextCursor(cursor)
 
+    def select_from(self, anchor: int, position: int) -> None:
+        """Selects what is between two places as Qt counts them, with the caret on the second one."""
+        cursor = self.textCursor()
+        cursor.setPosition(anchor)
+        cursor.setPosition(position, QTextCursor.MoveMode.KeepAnchor)
+        self.setTextCursor(cursor)
+
     def show_on_display(self) -> None:
         """Has a display of braille show this again, as where something comes to be selected, or not any more."""
         now, other = self.textCursor(), self.textCursor()
