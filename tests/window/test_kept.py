@@ -567,6 +567,29 @@ def test_where_the_x_server_ends_what_is_typed_is_kept_and_that_is_said(
     assert prints(moon)[0] == "The Moon"
 
 
+@pytest.mark.parametrize("is_typed", [False, True])
+def test_where_the_x_server_ends_what_waits_is_kept_again_if_its_folder_was_taken_away(
+    moon: Path, at: Open, tmp_path: Path, is_typed: bool
+) -> None:
+    soon = Draft(Aim.EDIT, 1, "en", "The Moon", "The Moon rose.", None, 5)
+    Drafts(moon).save(soon)
+    with _screen() as display:
+        window = at(moon, is_waited_for=False, DISPLAY=display)
+        answer = "Type it further" if is_typed else "Later"
+        window.top = window.dialog("Unsent text")
+        window.click(window.part("push button", answer))
+        window.no_dialog()
+        window.opened()
+        if is_typed:
+            window.reads("Print", soon.text)
+        else:
+            window.says("The text waits.")
+        (tmp_path / "state" / "braildesk").rename(tmp_path / "away")
+    window.program.communicate(timeout=PATIENCE_SECONDS)
+    assert window.program.returncode == 3
+    assert Drafts(moon).waiting() == soon
+
+
 @pytest.mark.parametrize(
     "is_kept, is_noticed", [(False, False), (True, False), (True, True)]
 )
