@@ -221,6 +221,7 @@ def test_a_note_is_for_its_words_where_others_were_changed(
     desk.act("bring_back")
     assert asked == [f"The note of a mark on “far”, cells {cells}:"]
     assert desk.window.marks.text.endswith(", open, on “far”: how far?")
+    desk.wait_for_draft()
     Drafts(desk.path).save(draft)
     given["choices"] = [2]
     desk.acting(Actions(desk).offer)
