@@ -1,5 +1,6 @@
 """scribe export and scribe copy: what leaves a book."""
 
+import errno
 import os
 import resource
 import shutil
@@ -20,6 +21,7 @@ from braildesk.desk.layout import PageSize
 from braildesk.desk.ranges import PageRange
 from braildesk.desk.whole_file import Access, write_whole
 
+from scribe.cli import run_words
 from scribe.words.console import Console
 from scribe.words.export import (
     export_in_words,
@@ -72,6 +74,22 @@ def test_volumes_are_said_to_be_new_where_what_is_shown_of_them_can_not_be_writt
         "Volumes 1 and 2 are new.\n",
     )
     assert files(moon.parent / "out") == ["moon-1.brf", "moon-2.brf"]
+
+
+def test_a_file_of_single_pages_is_said_to_be_new_where_that_can_not_be_shown(
+    moon: Path,
+) -> None:
+    def fill() -> None:
+        os.dup2(os.open("/dev/full", os.O_WRONLY), 1)
+
+    words: list[str | Path] = ["export", moon, "out", *SIZES, "--page", "1"]
+    assert scribe(*words, folder=moon.parent, before=fill) == Ran(
+        3,
+        "",
+        "Standard output could not be written: there is no room on the disk.\n"
+        "out/moon-1-pages-1.brf is new.\n",
+    )
+    assert files(moon.parent / "out") == ["moon-1-pages-1.brf"]
 
 
 def test_cells_are_counted_without_the_numbers_of_pages(moon: Path) -> None:
@@ -361,6 +379,47 @@ def test_where_a_volume_fails_it_is_said_which_files_are_new_and_which_older(
         " Volume 1 is new. Volume 3 was not made."
     )
     assert files(out) == ["moon-1.brf", "moon-2.brf"]
+
+
+@pytest.mark.parametrize(
+    "words, written, told",
+    [
+        ((), "moon-1.brf", " Volume 1 is new. Volume 2 is as before."),
+        (
+            ("--only-changed",),
+            "moon-1-changed.brf",
+            " Volumes 1 and 2 are as before.",
+        ),
+        (("--page", "1", "--volume", "2"), "moon-2-pages-1.brf", ""),
+    ],
+)
+def test_where_a_folder_can_not_be_brought_to_the_disk_it_is_said_which_files_are_new(
+    moon: Path,
+    monkeypatch: pytest.MonkeyPatch,
+    words: tuple[str, ...],
+    written: str,
+    told: str,
+) -> None:
+    scribe("volume", moon, "2", "on", folder=moon.parent)
+    out = moon.with_name("out")
+    out.mkdir()
+    for number in (1, 2):
+        (out / f"moon-{number}.brf").write_bytes(b"older")
+    sync = os.fsync
+
+    def synced(descriptor: int) -> None:
+        if os.path.samestat(os.fstat(descriptor), out.stat()):
+            raise OSError(errno.EIO, "no sync")
+        sync(descriptor)
+
+    monkeypatch.setattr(os, "fsync", synced)
+    said = StringIO()
+    console = Console(BytesIO(), StringIO(), said)
+    assert run_words(["export", str(moon), str(out), *words], console) == 3
+    assert said.getvalue() == (
+        f"{out / written} is written, but its folder could not be brought to the disk: no sync."
+        f" After a loss of power the older file may be there.{told}\n"
+    )
 
 
 def test_a_link_in_a_shared_folder_leads_an_export_nowhere(moon: Path) -> None:

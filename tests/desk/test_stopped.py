@@ -178,17 +178,22 @@ def test_an_export_that_is_told_to_end_while_it_writes_says_which_files_are_new(
     assert sorted(folder.iterdir()) == files
 
 
+@pytest.mark.parametrize(
+    "call, is_renamed", [(4, False), (3, True)], ids=["noted", "not noted yet"]
+)
 def test_an_export_that_is_told_to_end_says_which_file_of_changed_pages_is_new(
-    volumes: Path, monkeypatch: pytest.MonkeyPatch
+    volumes: Path, monkeypatch: pytest.MonkeyPatch, call: int, is_renamed: bool
 ) -> None:
     calls, replace = 0, os.replace
 
     def replaced(one: str, other: str, **folders: int) -> None:
         nonlocal calls
         calls += 1
-        if calls == 4:
+        if calls == call and not is_renamed:
             raise Interrupted(signal.SIGTERM)
         replace(one, other, **folders)
+        if calls == call:
+            raise Interrupted(signal.SIGTERM)
 
     monkeypatch.setattr(os, "replace", replaced)
     said, folder = StringIO(), volumes.with_name("pages")
@@ -201,6 +206,32 @@ def test_an_export_that_is_told_to_end_says_which_file_of_changed_pages_is_new(
     )
     assert (folder / "moon-2-changed.brf").read_bytes() != b"older"
     assert (folder / "moon-2.brf").read_bytes() == b"older"
+
+
+@pytest.mark.parametrize("number", [1, 2])
+def test_a_file_that_had_its_pages_before_is_not_said_to_be_new_by_an_export_that_is_told_to_end(
+    volumes: Path, monkeypatch: pytest.MonkeyPatch, number: int
+) -> None:
+    folder = volumes.with_name("pages")
+    pages = braildesk.export(volumes, number)
+    names = ("moon-1.brf", "moon-2-changed.brf")
+    (folder / names[number - 1]).write_bytes(pages)
+
+    def refuse(one: str, other: str, **folders: int) -> None:
+        if other == names[number - 1]:
+            raise Interrupted(signal.SIGTERM)
+        os.rename(one, other, **folders)
+
+    monkeypatch.setattr(os, "replace", refuse)
+    said = StringIO()
+    job = Job(volumes, folder, PageSize(), wait=0, has_changed_pages=True)
+    with pytest.raises(Interrupted):
+        export_in_words(job, Console(BytesIO(), StringIO(), said))
+    assert said.getvalue() == (
+        "Stopped by SIGTERM. Volumes 1, 2 and 3 are as before.\n"
+        if number == 1
+        else "Stopped by SIGTERM. Volume 1 is new. Volumes 2 and 3 are as before.\n"
+    )
 
 
 @pytest.mark.parametrize(

@@ -20,7 +20,14 @@ from braildesk.held import held, is_at_path, open_file
 from braildesk.named_files import read_file_there
 from braildesk.opening import waited
 from braildesk.protocol.asked import BookFile
-from braildesk.workshop import OthersLink, Place, Swapped, own_path, place_of
+from braildesk.workshop import (
+    MayNotLast,
+    OthersLink,
+    Place,
+    Swapped,
+    own_path,
+    place_of,
+)
 
 # how often the volumes are read until all are of one version
 TRIES = 3
@@ -238,6 +245,8 @@ class Export:
         self._folder = -1
         #: The files of pages that differ which were written.
         self.changed_files: list[Path] = []
+        #: The file that was begun last, with its pages, unless it had these before.
+        self._begun: tuple[Path, bytes] | None = None
 
     @property
     def volumes(self) -> int:
@@ -274,9 +283,13 @@ class Export:
         if not self._volumes:
             return None
         rest = [n for n in self._wanted if n not in self._written]
-        # the first of these may have its pages and not be noted yet
-        if rest and _has(self.job.file(rest[0]), self._wanted[rest[0]]):
-            return self._files((*self._written, rest[0]), rest[1:])
+        # the file that was begun last may have its pages and not be noted yet
+        if self._begun is not None and _has(*self._begun):
+            file, _ = self._begun
+            if rest and file == self.job.file(rest[0]):
+                return self._files((*self._written, rest[0]), rest[1:])
+            if rest and file == self.job.changed_file(rest[0]):
+                self.changed_files.append(file)
         return self._files(self._written, rest)
 
     def _files(self, new: Iterable[int], others: Iterable[int]) -> Files:
@@ -408,6 +421,7 @@ class Export:
         Its changed pages may have been written to a file of their own.
         """
         is_there = os.path.lexists(file)
+        self._begun = None if _has(file, pages) else (file, pages)
         try:
             if not self._has_folder():
                 raise OSError(errno.ESTALE, "its folder isn't at that path any more")
@@ -415,8 +429,16 @@ class Export:
             if not self._has_folder():
                 raise Swapped
         except OSError as cause:
-            files = self._files(self._written, range(volume + 1, self.volumes + 1))
+            files = self._beside(volume, file, cause)
             raise NotWritten(volume, file, cause, is_there, files, changed) from cause
+
+    def _beside(self, volume: int, file: Path, cause: OSError) -> Files:
+        """What the files of the volumes have if one wasn't written, or only pages of a volume weren't."""
+        if file != self.job.file(volume):
+            return self._files(self._written, range(volume, self.volumes + 1))
+        new = (volume,) if isinstance(cause, MayNotLast) else ()
+        others = range(volume + 1, self.volumes + 1)
+        return self._files((*self._written, *new), others)
 
 
 def export_pages(

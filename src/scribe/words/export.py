@@ -3,7 +3,6 @@
 import os
 from collections.abc import Callable, Iterator, Sequence
 from contextlib import ExitStack, contextmanager, suppress
-from dataclasses import replace
 from pathlib import Path
 
 from braildesk import (
@@ -204,8 +203,7 @@ def _why_no_folder(none: NoFolder) -> str:
 def not_written(fault: NotWritten) -> str:
     """What is said of a volume that couldn't be written, and of the others."""
     if isinstance(fault.cause, MayNotLast):
-        files = replace(fault.files, new=(*fault.files.new, fault.volume))
-        return may_not_last(fault.file, fault.cause) + _files(files)
+        return may_not_last(fault.file, fault.cause) + _files(fault.files)
     left = "is as it was" if fault.is_there else "was not made"
     if isinstance(fault.cause, Swapped):
         left = "isn't what was exported"

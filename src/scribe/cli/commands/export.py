@@ -20,7 +20,7 @@ from scribe.cli.parser import (
     number,
     some_path,
 )
-from scribe.words.console import Console
+from scribe.words.console import Console, OutputFailed
 from scribe.words.export import export_in_words, pages_in_words
 from scribe.words.status import Status
 from scribe.words.typed import page_ranges
@@ -103,6 +103,12 @@ def _exported(
     # without its number it is the only one
     file = job.pages_file(1 if volume is None else volume, wanted)
     with made_or_not(console, file, f"{file} is new.", f"{file} is as before."):
-        console.show(pages_in_words(job, volume, wanted))
-        console.flush()
+        said = pages_in_words(job, volume, wanted)
+        try:
+            console.show(said)
+            console.flush()
+        except OutputFailed as failed:
+            # the file is there all the same
+            failed.add_note(f"{file} is new.")
+            raise
     return Status.DONE
