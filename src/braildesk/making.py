@@ -457,6 +457,10 @@ def _judge_log(named: str, kind: type[NotMade], what: str) -> None:
     What keeps a book from being opened there keeps it from being made too.
     """
     _judge_name(named, kind, what)
+    real = os.path.dirname(real_path(named))
+    if os.path.isdir(real) and not os.path.exists(os.path.dirname(named) or "."):
+        # by two full stops after a folder that isn't there
+        raise cannot_open(NewBook(named), Why.NO_FOLDER)
     if opening.is_of_system(named):
         raise kind(
             f"“{named}” is where the system shows what it has itself, as in /proc and /sys, and no book is"

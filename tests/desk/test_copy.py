@@ -42,6 +42,13 @@ def test_a_book_takes_the_place_of_another_where_the_words_say_so(moon: Path) ->
     assert braildesk.check(other) == 7
 
 
+def test_no_copy_is_put_elsewhere_by_a_path_that_leads_nowhere(moon: Path) -> None:
+    ran = scribe("copy", moon.name, "none/../other", folder=moon.parent)
+    why = "There is no folder in which “none/../other” could be made."
+    assert ran == Ran(2, "", f"{why} Check that the path is right.\n")
+    assert not moon.with_name("other").exists()
+
+
 @pytest.mark.parametrize("kind", ["text", "link to a text", "pipe", "database"])
 def test_nothing_but_a_book_is_replaced(moon: Path, kind: str) -> None:
     other, text = moon.with_name("other"), moon.with_name("letter")

@@ -188,13 +188,13 @@ def test_a_book_that_is_there_is_left(moon: Path) -> None:
     )
 
 
-def test_a_book_in_a_folder_that_is_not_there_is_refused(tmp_path: Path) -> None:
-    assert scribe("new", "none/moon.braildesk", folder=tmp_path) == Ran(
-        2,
-        "",
-        "There is no folder in which “none/moon.braildesk” could be made. Check that the path"
-        " is right.\n",
-    )
+@pytest.mark.parametrize("name", ["none/moon.braildesk", "none/../moon.braildesk"])
+def test_a_book_in_a_folder_that_is_not_there_is_refused(
+    tmp_path: Path, name: str
+) -> None:
+    said = f"There is no folder in which “{name}” could be made. Check that the path is right.\n"
+    assert scribe("new", name, folder=tmp_path) == Ran(2, "", said)
+    assert not any(tmp_path.iterdir())
 
 
 def test_names_with_blanks_and_other_letters_are_names(tmp_path: Path) -> None:
