@@ -173,6 +173,15 @@ def is_little_left(path: str) -> bool:
     return False
 
 
+def why_unwritten(path: str, room: int | None) -> Why:
+    """Why a book can't be written, on whose disk there is so little room, if that is seen."""
+    if room is not None:
+        return Why.UNKNOWN
+    if is_little_left(path):
+        return Why.OVER_QUOTA
+    return Why.COMPUTED if _is_added_to(path) else Why.UNKNOWN
+
+
 def _why(asked: AskedOfFile) -> Why:
     try:
         return _why_not_regular(asked.path) or _why_regular(asked)
@@ -577,6 +586,24 @@ def _tables_in(database: sqlite3.Connection) -> dict[bytes, bool]:
         f" WHERE type IN ('table', 'view') AND lower(name) IN ({names})"
     )
     return {name: bool(keeps_rows) for name, keeps_rows in rows}
+
+
+def _is_added_to(path: str | PathLike[str]) -> bool:
+    """Whether a table of a book has an index that a book doesn't have, if that is seen.
+
+    By that a change may fail that the book takes.
+    """
+    names = ", ".join(f"'{name.decode()}'" for name in _TABLES)
+    query = (
+        "SELECT count(*) FROM main.sqlite_schema s, pragma_index_list(s.name, 'main')"
+        f" WHERE type = 'table' AND lower(s.name) IN ({names}) AND origin <> 'pk'"
+    )
+    try:
+        with closing(reader(path, True)) as database:
+            ((count,),) = database.execute(query)
+            return bool(count)
+    except sqlite3.Error:
+        return False
 
 
 def _has_long_value(

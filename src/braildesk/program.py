@@ -37,7 +37,7 @@ from braildesk.protocol.asked import (
     seen,
 )
 from braildesk.protocol.codes import Code
-from braildesk.protocol.sentences import ENDED_BY, OF_QUOTA, Why, said_of_room
+from braildesk.protocol.sentences import ENDED_BY, Why, remedy
 from braildesk.refusals import (
     CannotOpen,
     Damaged,
@@ -398,12 +398,11 @@ def of_signal(number: int) -> str:
 
 def _failure(status: int, errors: str, asked: AskedOfFile) -> str:
     if status == 3:
-        room = said_of_room(opening.little_room(asked.path))
-        if not room and opening.is_little_left(asked.path):
-            room = OF_QUOTA
+        room = opening.little_room(asked.path)
+        done = remedy(opening.why_unwritten(asked.path, room), room, ", and try again")
         return (
-            "The file could not be written or read. What the book held is still in it. See to"
-            f" the disk, and try again{room}."
+            "The file could not be written or read. What the book held is still in it."
+            f" {done}"
         )
     if status < 0:
         more = " Set a higher one, and try again." if -status in ENDED_BY else ""

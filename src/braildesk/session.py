@@ -26,7 +26,6 @@ from braildesk.protocol.codes import Code
 from braildesk.protocol.fields import Unwritable
 from braildesk.protocol.replies import Reply, Unreadable
 from braildesk.protocol.requests import Command, Request
-from braildesk.protocol.sentences import Why
 from braildesk.protocol.values import Table
 from braildesk.refusals import (
     CannotOpen,
@@ -420,8 +419,7 @@ class Session(Asking):
         """The exception of a session whose program could not keep a command, and has ended by that."""
         room = opening.little_room(self._book.path)
         # before the program has given up the room of its log
-        is_by_quota = room is None and opening.is_little_left(self._book.path)
-        why = Why.OVER_QUOTA if is_by_quota else Why.UNKNOWN
+        why = opening.why_unwritten(self._book.path, room)
         self._pipe.close()
         if room == 0:
             # the program has given up the room of its log by now

@@ -11,7 +11,16 @@ from pathlib import Path
 import pytest
 
 import braildesk
-from braildesk import CannotOpen, Refused, Session, Why, limits, opening
+from braildesk import (
+    CannotOpen,
+    Failed,
+    Lost,
+    Refused,
+    Session,
+    Why,
+    limits,
+    opening,
+)
 from braildesk.opening import fault_in, reader
 from strangers import NEEDS_ROOT, STRANGER, as_stranger, in_time, lead_to
 from tool import scribe
@@ -307,6 +316,41 @@ def test_what_else_stands_in_the_file_of_a_book_is_left_alone(book: Path) -> Non
     with Session(book) as session:
         session.add_paragraph("end", "en", "The moon")
     assert braildesk.check(book) == 2
+
+
+#: What is said where a table of a book has an index that the program doesn't give it.
+ADDED = (
+    "One of its tables has an index that no book has by itself, and that may be why. Ask whoever made"
+    " the file, or go on with an earlier copy."
+)
+
+
+def test_of_a_book_that_keeps_nothing_by_an_index_that_was_added_the_disk_is_not_blamed(
+    book: Path,
+) -> None:
+    with Session(book) as session:
+        session.add_paragraph("end", "en", "The moon")
+    altered(book, "CREATE UNIQUE INDEX i ON para(struck)")
+    with Session(book) as session:
+        with pytest.raises(Lost) as lost:
+            session.add_paragraph("end", "en", "The sea")
+    assert lost.value.cause == (
+        "The new paragraph “The sea” was not reported as kept, since the file of the book could not"
+        f" be written or read. {ADDED}"
+    )
+    assert braildesk.check(book) == 2
+
+
+def test_of_a_book_that_can_not_be_completed_by_an_index_that_was_added_the_disk_is_not_blamed(
+    book: Path,
+) -> None:
+    altered(book, "DROP TABLE cache; CREATE INDEX cache ON para(place)")
+    with pytest.raises(Failed) as failed:
+        braildesk.check(book)
+    assert failed.value.sentence == (
+        "The file could not be written or read. What the book held is still in it."
+        f" {ADDED}"
+    )
 
 
 @pytest.mark.parametrize("kind", ["file", "pipe", "link"])

@@ -85,7 +85,7 @@ SENTENCES: Mapping[int, str] = MappingProxyType(
         f" {limits.WHO_CHARACTERS} characters, none of them a blank.",
         Code.NO_MEMORY: "There was no memory for this. {nothing} Close other programs, and ask again.",
         Code.NOT_KEPT: "{command} was not reported as kept, since the file of the book could not be written or"
-        " read. See to the disk{room}.",
+        " read. {remedy}",
         Code.NOT_A_BOOK: "{path} is no book. {nothing} Check that the path is right.",
         Code.DAMAGED: "The book {path} is damaged: its file has a wrong row in {part}. {nothing}"
         " Keep the file as it is, and go on with an earlier copy.",
@@ -276,10 +276,23 @@ def of_failure(failure: OSError) -> str:
 
 
 #: What is said of a disk of which a quota leaves somebody little or nothing.
-OF_QUOTA = ": little or nothing is left of what you may use of it (a quota)"
+_OF_QUOTA = ": little or nothing is left of what you may use of it (a quota)"
+#: What is said of a file where the disk needn't be why.
+_ADDED_TO = (
+    "One of its tables has an index that no book has by itself, and that may be why. Ask whoever made"
+    " the file, or go on with an earlier copy."
+)
 
 
-def said_of_room(room: int | None) -> str:
+def remedy(why: Why, room: int | None, also: str = "") -> str:
+    """What is done where a file can't be written or read: its disk is seen to, unless another cause is seen."""
+    if why is Why.COMPUTED:
+        return _ADDED_TO
+    said = _OF_QUOTA if why is Why.OVER_QUOTA else _said_of_room(room)
+    return f"See to the disk{also}{said}."
+
+
+def _said_of_room(room: int | None) -> str:
     """That there is little room on a disk, to stand after what is said of it.
 
     It isn't said for how many bytes: the program has emptied its log since something was too many.

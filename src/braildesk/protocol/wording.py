@@ -27,14 +27,12 @@ from braildesk.protocol.fields import plain
 from braildesk.protocol.sentences import (
     CAUSES,
     LIMITS,
-    OF_QUOTA,
     PARTS,
     SENTENCES,
     STRUCK_ALREADY,
     UNOPENED,
     UNREAD,
-    Why,
-    said_of_room,
+    remedy,
 )
 from braildesk.text import limits
 from braildesk.text.characters import (
@@ -436,11 +434,9 @@ class _Fields:
         return part.format_map({"id": self._refusal.id})
 
     @property
-    def room(self) -> str:
-        """How little room there is on the disk, or for this user, if that is so."""
-        if self._refusal.why is Why.OVER_QUOTA:
-            return OF_QUOTA
-        return said_of_room(self._refusal.room)
+    def remedy(self) -> str:
+        """What is done where the file of a book can't be written or read."""
+        return remedy(self._refusal.why, self._refusal.room)
 
     @property
     def length(self) -> str:
