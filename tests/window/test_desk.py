@@ -858,7 +858,7 @@ def test_of_a_paragraph_on_no_page_it_is_said_why_it_is_on_none(
         desk.act("page")
 
     for row, why in (
-        (1, "Paragraph 2 is struck, and stands on no page."),
+        (1, "Paragraph 2 is struck, so it is on no page."),
         (2, "Paragraph 3 has no words, and takes no line."),
     ):
         desk.choose(row)

@@ -61,9 +61,9 @@ def not_laid_out(pages: "PageMap | None") -> list[str]:
     if pages is None:
         return []
     # imported here, since it is seldom asked for
-    from scribe.words.pages import not_exported
+    from scribe.words import pages as words
 
-    return not_exported(pages.not_laid_out.items())
+    return words.not_laid_out(pages)
 
 
 def _within(ends: tuple[int, int]) -> Callable[[str], int]:

@@ -10,6 +10,7 @@ from scribe.screen.actions import ByPages, ListHeadings, ListMarks, SayPage, ToP
 from scribe.screen.state import Pages, Pane, State
 from scribe.words import pagelook
 from scribe.words.pagelook import Layouts, VolumeLines
+from scribe.words.pages import on_no_page
 
 
 def volumes_for(state: State, action: ByPages) -> tuple[VolumeLines, ...]:
@@ -83,4 +84,4 @@ def _no_volume(state: State, action: ByPages) -> str:
     if not count or isinstance(action, ListMarks | ListHeadings):
         return "All paragraphs are struck, so the book has no pages."
     assert state.paragraph is not None
-    return f"Paragraph {state.paragraph.id} is struck, so it is on no page."
+    return on_no_page(state.paragraph.id)

@@ -49,6 +49,7 @@ from scribe.words.change_all import REST_STAYS, Count
 from scribe.words.changes import edit_in_part
 from scribe.words.deeds import Deed, kept, kept_parts
 from scribe.words.drafts import as_paragraphs, not_kept
+from scribe.words.pages import on_no_page
 from scribe.words.paragraph import counted, part_of, quoted
 from scribe.words.preview import Tables
 from scribe.words.status import Stop
@@ -645,7 +646,7 @@ class OpenBook:
         its, version = sought.paragraph, contents.version
         volume = pagelook.volume_of(contents.paragraphs, version, page_size, its)
         if volume is None:
-            return pagelook.Page(struck_on_no_page(its.id))
+            return pagelook.Page(on_no_page(its.id))
         is_laid = self._laid is not None and self._laid.is_of(volume)
         if volume.is_long and not is_asked and not is_laid:
             return pagelook.Page(_LONG)
@@ -673,7 +674,7 @@ class OpenBook:
             if volume is None and len(volumes) == 1:
                 (volume,) = volumes
             if volume is None:
-                raise Stop(f"Paragraph {here.id} is struck, so it is on no page.")
+                raise Stop(on_no_page(here.id))
         elif 1 <= number <= len(volumes):
             volume = volumes[number - 1]
         else:
@@ -702,7 +703,7 @@ class OpenBook:
         (its, cell), book, version = here, contents.paragraphs, contents.version
         volume = pagelook.volume_of(book, version, page_size, its)
         if volume is None:
-            return struck_on_no_page(its.id)
+            return on_no_page(its.id)
         count = len(pagelook.volumes_of(book, version, page_size))
 
         def report(done: int, whole: int) -> None:
@@ -860,11 +861,6 @@ class OpenBook:
             case requests.Retable():
                 return replace(its, table=command.table)
         return None
-
-
-def struck_on_no_page(number: int) -> str:
-    """Why a paragraph that is struck stands on no page."""
-    return f"Paragraph {number} is struck, and stands on no page."
 
 
 def _with_backs(

@@ -46,7 +46,6 @@ from scribe.window.book import (
     Opening,
     ChosenParagraph,
     PartKept,
-    struck_on_no_page,
 )
 from scribe.window.dialogs import IsStopped, Say, ask, offer
 from scribe.window.fields import LINE_END
@@ -56,7 +55,7 @@ from scribe.window.taken_back import TakenBack
 from scribe.window.window import Window
 from scribe.window.worker import Worker
 from scribe.words import pagelook
-from scribe.words.aftermath import is_gone
+from scribe.words.aftermath import is_gone, unchanged
 from scribe.words.console import WAITING
 from scribe.words.drafts import (
     Unsent,
@@ -72,7 +71,7 @@ from scribe.words.drafts import (
     typed_there,
     what_for,
 )
-from scribe.words.pages import no_line
+from scribe.words.pages import no_line, on_no_page
 from scribe.words.paragraph import counted, mark_line, quoted, title
 from scribe.words.preview import Preview
 from scribe.words.status import Interrupted, Stop, in_sentences
@@ -1065,7 +1064,7 @@ class Desk:
         its = self.reading.its
         number = its.paragraph.id
         if its.paragraph.struck:
-            return struck_on_no_page(number)
+            return on_no_page(number)
         if its.braille.strip(EMPTY_CELL):
             return ""
         return _NO_WORDS_YET.format(number) if self.is_typed() else no_line(number)
@@ -1246,7 +1245,7 @@ class Desk:
     def strayed(self) -> str:
         """What became of the file of a book in which nothing was kept, once its session is closed."""
         strayed = self.book.session.strayed
-        return f"{strayed} Nothing was changed in it here." if strayed else ""
+        return unchanged(strayed) if strayed else ""
 
     def end_at_once(self) -> str:
         """Ends the session once nothing can be shown, and says what is so of a book that was lost."""

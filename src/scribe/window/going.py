@@ -17,7 +17,7 @@ from scribe.window.desk import Desk
 from scribe.window.dialogs import IsStopped, Say
 from scribe.window.finding import Finding
 from scribe.words import pagelook
-from scribe.words.pages import not_exported, page_place
+from scribe.words.pages import not_laid_out, page_place
 from scribe.words.paragraph import counted, mark_line, marks_summary
 from scribe.words.status import Stop
 
@@ -142,7 +142,7 @@ class Going:
 
 def _title(what: str, pages: PageMap) -> str:
     """What is listed, and why volumes that have some of it aren't laid out."""
-    reasons = not_exported(pages.not_laid_out.items())
+    reasons = not_laid_out(pages)
     return ". ".join([what, " ".join(reasons)]) if reasons else what
 
 

@@ -74,9 +74,14 @@ def deed_found(
 def tell_end(console: Console, name: str, version: int, strayed: str) -> None:
     """Says at which version a closed book is, or what became of its file while nothing was kept."""
     if strayed:
-        console.say(f"{strayed} Nothing was changed in it here.")
+        console.say(unchanged(strayed))
     else:
         console.show(f"{name} is at version {version:,}.")
+
+
+def unchanged(strayed: str) -> str:
+    """What is said of a book whose file came elsewhere while nothing was kept."""
+    return f"{strayed} Nothing was changed in it here."
 
 
 def _found_unshown(found: FoundAgain, begun: int | None = None) -> str:

@@ -3,7 +3,7 @@
 from collections.abc import Iterable, Sequence
 
 from braildesk.desk.layout import PageSize, Volume
-from braildesk.desk.page_places import PagePlace, PrintedRow
+from braildesk.desk.page_places import PageMap, PagePlace, PrintedRow
 from braildesk.text import limits
 from braildesk.text.characters import visible
 
@@ -72,6 +72,16 @@ def _not_exported(volume: int, paragraph: int, cell: int) -> str:
         f" can't have, so volume {volume} can't be exported. Correct the table of that"
         " paragraph."
     )
+
+
+def not_laid_out(pages: PageMap) -> list[str]:
+    """Why volumes of places that were looked for aren't laid out."""
+    return not_exported(pages.not_laid_out.items())
+
+
+def on_no_page(paragraph: int) -> str:
+    """What is said of a paragraph that is in no volume."""
+    return f"Paragraph {paragraph} is struck, so it is on no page."
 
 
 def not_there(volumes: Sequence[int], what: str) -> str:
