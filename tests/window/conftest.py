@@ -1,6 +1,7 @@
 """What the tests of the window share: books, and windows that are closed at the end."""
 
 import os
+import sys
 import time
 from collections.abc import Callable, Iterator, Sequence
 from pathlib import Path
@@ -9,8 +10,8 @@ from typing import Any
 
 import pytest
 
-from PyQt6.QtCore import QSettings
-from PyQt6.QtWidgets import QApplication
+from PyQt6.QtCore import QSettings, QTimer
+from PyQt6.QtWidgets import QApplication, QDialog
 
 from braildesk import Session, new_book
 from braildesk.desk.layout import PageSize
@@ -25,6 +26,7 @@ from reader import PATIENCE_SECONDS, Reader
 
 Open = Callable[..., Reader]
 Answers = dict[str, Any]
+_LOOK_MILLISECONDS = 50
 
 
 @pytest.fixture(autouse=True)
@@ -37,6 +39,39 @@ def own_folders(tmp_path: Path, monkeypatch: pytest.MonkeyPatch) -> None:
     # Qt takes the folder of settings from the environment only once in a process
     native, user = QSettings.Format.NativeFormat, QSettings.Scope.UserScope
     QSettings.setPath(native, user, str(tmp_path / "config"))
+
+
+class Faults:
+    """The faults in what Qt calls during a test, after which it would end all tests at once."""
+
+    def __init__(self) -> None:
+        self.found: list[BaseException] = []
+        self.is_over = False
+
+    def note(
+        self, kind: type[BaseException], fault: BaseException, trace: object
+    ) -> None:
+        """Notes one, after which nobody may be there to answer a dialog."""
+        self.found.append(fault)
+        self._end_dialog()
+
+    def _end_dialog(self) -> None:
+        dialog = QApplication.activeModalWidget()
+        if isinstance(dialog, QDialog):
+            dialog.reject()
+        if not self.is_over:
+            QTimer.singleShot(_LOOK_MILLISECONDS, self._end_dialog)
+
+
+@pytest.fixture(autouse=True)
+def faults(monkeypatch: pytest.MonkeyPatch) -> Iterator[None]:
+    """A fault in what Qt calls is one of the test."""
+    faults = Faults()
+    monkeypatch.setattr(sys, "excepthook", faults.note)
+    yield
+    faults.is_over = True
+    if faults.found:
+        raise faults.found[0]
 
 
 @pytest.fixture
