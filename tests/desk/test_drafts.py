@@ -4,6 +4,7 @@ import errno
 import json
 import os
 import shutil
+import signal
 import stat
 import tempfile
 from collections.abc import Callable, Iterator
@@ -26,6 +27,7 @@ from braildesk.text.spans import Span
 from scribe.words.drafts import Unsent, not_kept, taken_back_in_part
 from sitting import Sit
 from strangers import NEEDS_ROOT, STRANGER, as_stranger
+from terminal import once_free
 
 NOTE = Draft(Aim.NOTE, 3, "en", "The Tides", "which?\nwhy?", Span(2, 4), 9, Span(1, 3))
 FORGED = {
@@ -149,6 +151,60 @@ def test_a_text_that_was_typed_before_or_while_its_folder_was_renamed_is_offered
         drafts = Drafts(in_folder)
     waits = drafts.waiting()
     assert waits and waits.text == "On."
+
+
+@pytest.mark.parametrize("is_at_once", [False, True])
+def test_a_text_is_offered_where_a_book_was_moved_before_another_was_put_at_its_path(
+    moon: Path, store: Path, sit: Sit, is_at_once: bool
+) -> None:
+    sat = sit(moon)
+    sat.press("o", *"It rose.")
+    if not is_at_once:
+        sat.state = sat.desk.save_draft(sat.state)
+    moved = moon.rename(moon.with_name("moved.braildesk"))
+    shutil.copyfile(moved, moon)
+    sat.press(*" It set.")
+    sat.state = sat.desk.save_draft(sat.state)
+    # as where scribe is killed, too
+    os.kill(sat.desk.pid, signal.SIGKILL)
+    once_free(moved).close()
+    question = sit(moved).state.question
+    assert question is not None and question.sentence.startswith(
+        "A text of a new paragraph was typed and isn't in the book: “It rose. It set.”."
+    )
+
+
+def test_a_text_is_kept_for_the_file_that_was_opened_at_the_path_by_a_key(
+    moon: Path, store: Path, sit: Sit
+) -> None:
+    sat = sit(moon)
+    away = moon.rename(moon.with_name("away.braildesk"))
+    shutil.copyfile(away, moon)
+    # the session sees that the file is gone
+    sat.press("s", "enter", "o", *"It rose.")
+    assert not sat.state.is_lost and sat.state.typed
+    sat.state = sat.desk.save_draft(sat.state)
+    moved = moon.rename(moon.with_name("moved.braildesk"))
+    os.kill(sat.desk.pid, signal.SIGKILL)
+    once_free(moved).close()
+    for path in (away, moved):
+        drafts = Drafts(path)
+        drafts.take_in()
+        waits = drafts.waiting()
+        assert (waits.text if waits else "") == ("It rose." if path == moved else "")
+
+
+def test_a_text_is_kept_for_the_book_that_is_opened_and_not_for_the_one_before(
+    moon: Path, store: Path
+) -> None:
+    drafts = Drafts(moon)
+    # as while another program has it open, and is waited for
+    Path(shutil.copyfile(moon, moon.with_name("other.braildesk"))).replace(moon)
+    drafts.see_file()
+    drafts.save(NOTE)
+    moved = moon.rename(moon.with_name("moved.braildesk"))
+    Drafts(moved).take_in()
+    assert Drafts(moved).waiting() == NOTE
 
 
 def test_a_text_is_kept_once_for_a_book_whose_folder_was_renamed_while_it_was_open(

@@ -432,6 +432,29 @@ def test_another_book_that_is_there_as_a_session_ends_is_not_taken_for_this_one(
     desk.act("give_up")
 
 
+def test_a_text_is_kept_for_the_file_that_is_open_also_where_another_is_at_its_path(
+    desk: Desk, moon: Path
+) -> None:
+    for text in ("It rose.", "It set."):
+        desk.act("new_after")
+        desk.window.print.insertPlainText("So: ")
+        desk.wait_for_draft()
+        moved = moon.rename(moon.with_name(text))
+        shutil.copyfile(moved, moon)
+        desk.window.print.insertPlainText(text)
+        desk.wait_for_draft()
+        drafts = Drafts(moved)
+        drafts.take_in()
+        waiting = drafts.waiting()
+        assert waiting is not None and waiting.text == f"So: {text}"
+        # what is sent shows that the file is gone, and the other one is opened at its path
+        desk.act("keep")
+        assert desk.is_closed
+        desk.act("open_again")
+        assert not desk.is_closed
+        desk.act("give_up")
+
+
 def test_another_book_that_came_after_a_session_ended_is_not_said_to_be_this_one(
     desk: Desk, moon: Path
 ) -> None:

@@ -136,7 +136,7 @@ class Drafts:
         self.book = Path(BookFile.of(book).real)
         self._key = sha256(os.fsencode(self.book)).hexdigest()[:32]
         self._folder = OwnFolder(state_folder())
-        # what is kept once the book is moved away, as with its folder, is known by this
+        # what is kept is known by this, also once the book is moved away, or another file put there
         self._file = identity_of(self.book)
         #: The text that waits and was copied for another book.
         self._copied: Draft | None = None
@@ -146,6 +146,10 @@ class Drafts:
         self._as_copied: dict[str, bytes | None] = {}
         # the books for which this was copied, as they were then: they may be moved on
         self._others: dict[Path, Drafts] = {}
+
+    def see_file(self) -> None:
+        """Sees which file the book is, once that is opened: what is kept from now on is kept for it."""
+        self._file = identity_of(self.book) or self._file
 
     @property
     def place(self) -> Path:
@@ -702,7 +706,7 @@ class Drafts:
         return aside
 
     def _write(self, what: Begun, values: dict[str, object]) -> None:
-        identity = identity_of(self.book) or self._file
+        identity = self._file or identity_of(self.book)
         known = identity.values() if identity else {"file": None}
         of_book: dict[str, object] = {"book": str(self.book), **known}
         whole: dict[str, object] = {**of_book, **values}

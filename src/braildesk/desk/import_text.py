@@ -282,6 +282,7 @@ class Importer:
         return self._judged()
 
     def _judged(self) -> Intake:
+        self._drafts.see_file()
         # beside the program, which takes as long for the characters
         beside: Callable[[], object] = lambda: self._digest
         return _intake(self.job, self._session, *self._parts, self._characters, beside)

@@ -30,7 +30,7 @@ from braildesk.desk.import_note import ImportNote
 from braildesk.desk.kept_lines import reads_the_same
 from braildesk.desk.tables import NoSuchTable, table_request
 from braildesk.protocol.requests import Command
-from braildesk.session import held_file
+from braildesk.session import HeldFile, held_file
 from braildesk.text.characters import visible
 
 from scribe.screen import (
@@ -188,6 +188,8 @@ class Desk:
         self._session: Session
         #: By which the file of the book is known.
         self._file: Identity | None = None
+        #: The same while it is held, until it is opened again: no other one is to be taken for it.
+        self._held: HeldFile | None = None
         self._unsent = Unsent(self.drafts)
         #: What keys typed last, whatever they did.
         self.typed_last = TypedLast(self.drafts)
@@ -204,6 +206,7 @@ class Desk:
         #: Whether people were told at the opening to wait, before anything of the book was seen.
         self.was_waited_for = False
         self._open(self._wait)
+        self.drafts.see_file()
         # whoever had the book open until now may have typed on
         self._notices = self._take_up()
         self.typed_last.begin()
@@ -444,8 +447,8 @@ class Desk:
                     state = replace(state, kept=f"kept: {ending.kept}")
                 if ending.lost is not None:
                     raise ending.lost
+                self._held = held
                 meanwhile = self._open_further()
-                self._session.guard(held)
             before = state
             state = self._opened_again(state)
         except Lost as lost:
@@ -531,8 +534,11 @@ class Desk:
         What is left of the one before may have the book for another moment. It is said what was typed
         elsewhere since that one.
         """
+        held, self._held = self._held, None
         self._open(max(self._wait, aftermath.PATIENCE))
-        self._session.guard()
+        # what is typed isn't kept for another file that is there
+        self._session.guard(held)
+        self.drafts.see_file()
         self.typed_last.begin()
         found = self._unsent.others()
         if found is None:

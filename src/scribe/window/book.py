@@ -143,11 +143,14 @@ class OpenBook:
         by: str | None,
         wait: float,
         while_waiting: Callable[[], None] = lambda: None,
+        see_file: Callable[[], None] = lambda: None,
     ) -> None:
         self.path = path
         self._by = by
         self._wait = wait
         self._while_waiting = while_waiting
+        # what is called at each opening, once the file is known to be the book's
+        self._see_file = see_file
         #: By these what is typed is translated before the book has it.
         self.tables = Tables(while_waiting)
         self._session: Session
@@ -784,6 +787,7 @@ class OpenBook:
         if self._was_open:
             # what was kept before is at stake in this session as well
             session.guard(held)
+        self._see_file()
         self._was_open = True
         self.tables.read(session.tables())
         return self.contents()

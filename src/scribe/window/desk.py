@@ -203,8 +203,9 @@ class Desk:
         #: The threads of the session, of the texts that wait, and of what is translated ahead.
         self.held = held or Held()
         self.work, self.aside, self.ahead = (Worker(self.held) for _ in range(3))
-        self.book = OpenBook(path, by, wait, self._look_at_end)
         self.drafts = Drafts(path)
+        its = self._look_at_end, self.drafts.see_file
+        self.book = OpenBook(path, by, wait, *its)
         self.unsent, self.typed_last = Unsent(self.drafts), TypedLast(self.drafts)
         self.contents = Contents(0, (), ())
         self.row = -1
