@@ -1486,6 +1486,49 @@ def test_a_text_of_another_session_is_given_up_where_one_of_this_is_kept_in_its_
     assert (drafts.waiting(), drafts.given_up()) == (None, (more, theirs, ours))
 
 
+def typing(store: Path, tmp_path: Path) -> tuple[Drafts, Callable[[str], None]]:
+    """Where a lost session keeps what is typed there in turn with another one, and what types in that."""
+    book = tmp_path / "book.braildesk"
+    book.write_bytes(b"a book")
+    here, other = Unsent(Drafts(book)), Unsent(Drafts(book))
+    turns = list[str]()
+
+    def typed(text: str) -> None:
+        other.keep(Draft(Aim.AFTER, 1, "en", "", text))
+        turns.append("o")
+        here.keep(Draft(Aim.AFTER, 2, "en", "", "".join(turns)))
+
+    return Drafts(book), typed
+
+
+def test_a_text_that_is_typed_on_in_another_session_takes_the_place_of_what_it_was(
+    store: Path, tmp_path: Path
+) -> None:
+    drafts, typed = typing(store, tmp_path)
+    drafts.put_by(NOTE)
+    for length in range(1, 15):
+        typed("The sun rose again."[:length])
+    texts = [each.text for each in drafts.given_up()]
+    assert texts == ["The sun rose a", "o" * 13, NOTE.text]
+
+
+def test_a_text_of_another_session_takes_the_place_of_no_other_one(
+    store: Path, tmp_path: Path
+) -> None:
+    drafts, typed = typing(store, tmp_path)
+    # one that was given up before reads as the front of it
+    drafts.put_by(Draft(Aim.AFTER, 1, "en", "", "The", left=1))
+    for text in ("The", "The sun", "The moon", "The moon rose", "The moon"):
+        typed(text)
+    found = [each.text for each in drafts.given_up() if each.paragraph == 1]
+    assert found == ["The moon", "The moon rose", "The sun", "The"]
+    # and one that was given up since
+    drafts.put_by(Draft(Aim.AFTER, 1, "en", "", "The moon", left=2**40))
+    typed("The moon set")
+    found = [each.text for each in drafts.given_up() if each.paragraph == 1]
+    assert found[:2] == ["The moon set", "The moon"]
+
+
 def test_no_text_of_this_session_is_given_up_as_one_of_another(
     store: Path, tmp_path: Path
 ) -> None:

@@ -70,6 +70,15 @@ class Draft(Value):
         """Whether a person takes it for the same text as another one, also where the print was changed."""
         return self.known_by == other.known_by
 
+    def is_typed_on_from(self, other: "Draft") -> bool:
+        """Whether it is for the same as another text, and has all of that, and more in one place."""
+        # imported here, since few texts are typed in two sessions
+        from braildesk.desk.correction import smallest_correction
+
+        more = smallest_correction(other.text, self.text)
+        is_longer = more is not None and not more.count
+        return is_longer and self.known_by[1:] == other.known_by[1:]
+
     @property
     def first_line(self) -> str:
         """The first of its lines."""

@@ -146,6 +146,8 @@ class Drafts:
         self._as_copied: dict[str, bytes | None] = {}
         # the books for which this was copied, as they were then: they may be moved on
         self._others: dict[Path, Drafts] = {}
+        # what another session typed, as it was given up here last
+        self._theirs: Draft | None = None
 
     def see_file(self) -> None:
         """Sees which file the book is, once that is opened: what is kept from now on is kept for it."""
@@ -196,18 +198,34 @@ class Drafts:
         else:
             self._remove(Begun.LATER)
 
-    def put_by(self, draft: Draft) -> tuple[Draft, ...]:
+    def put_by(self, draft: Draft, earlier: Draft | None = None) -> tuple[Draft, ...]:
         """Keeps a text as the newest of the last ten given up; the one that waits stays.
 
-        Those of the ten for which there is no room aren't kept any more, and are the result.
+        An earlier state of it is kept no more, unless it was given up by itself since. Those of the ten
+        for which there is no room aren't kept any more either, and are the result.
         """
-        others = [each for each in self.given_up() if not each.is_same_as(draft)]
+        others = [
+            each
+            for each in self.given_up()
+            if not each.is_same_as(draft)
+            if earlier is None or (each, each.left) != (earlier, earlier.left)
+        ]
         texts = (draft, *others)[:MOST_GIVEN_UP]
         values = [each.values() for each in texts]
         while len(values) > 1 and len(json.dumps(values)) > MOST_BYTES // 2:
             values.pop()
         self._write(Begun.GIVEN_UP, {"texts": values})
         return texts[len(values) :]
+
+    def put_by_theirs(self, draft: Draft) -> tuple[Draft, ...]:
+        """Keeps so what another session typed, in place of that from which it was typed on there."""
+        is_known = any(each.is_same_as(draft) for each in self.given_up())
+        before = self._theirs
+        is_on = before is not None and draft.is_typed_on_from(before)
+        older = self.put_by(draft, before if is_on else None)
+        # what was given up before by itself stays
+        self._theirs = None if is_known else draft
+        return older
 
     def take_out(self, draft: Draft) -> None:
         """Takes a text out of those given up: it is typed further, and waits until it is sent."""
@@ -604,7 +622,7 @@ class Drafts:
         with suppress(NotKept):
             ours, waiting = self.waiting(), other.waiting()
             if ours and waiting and waiting not in (ours, before, self._copied):
-                other.put_by(waiting)
+                other.put_by_theirs(waiting)
             self._copied = ours
         with suppress(NotKept):
             theirs = other.given_up()

@@ -319,7 +319,7 @@ class Unsent:
             if found and is_left:
                 self._later = tuple(dict.fromkeys((found, *self._later)))
             theirs = None if is_left else found
-            how = self.put_by(theirs) if theirs else ""
+            how = self.put_by(theirs, is_theirs=True) if theirs else ""
             with suppress(NotKept):
                 self.keep(its)
             return (theirs, how) if theirs else None
@@ -429,7 +429,7 @@ class Unsent:
         known = [each for each in (*own, *self._later, *self._put_off) if each]
         found = self._drafts.seen_waiting()
         if found and found.text not in (written(each.text) for each in known):
-            self.put_by(found)
+            self.put_by(found, is_theirs=True)
 
     def _keep_beside(self, draft: Draft) -> None:
         """Keeps a text that is left for later where it is found if the machine stops before it waits again.
@@ -503,14 +503,18 @@ class Unsent:
         is_end = its is not None and its.text.endswith(f"\n{draft.text}")
         return is_end or its is not None and its.is_same_as(draft)
 
-    def put_by(self, draft: Draft) -> str:
-        """Keeps a text as the newest of those given up, and says what is in the way of that."""
+    def put_by(self, draft: Draft, is_theirs: bool = False) -> str:
+        """Keeps a text as the newest of those given up, and says what is in the way of that.
+
+        That which another session types takes the place of its own earlier state there.
+        """
         draft = self._left_now(draft)
         self._forget(draft)
         self._here = _without(draft, self._here)
         self._taken_up = _without(draft, self._taken_up)
+        its = self._drafts
         try:
-            older = self._drafts.put_by(draft)
+            older = its.put_by_theirs(draft) if is_theirs else its.put_by(draft)
         except NotKept as fault:
             self._here.insert(0, draft)
             where = _WAITS_ON if draft == self.waiting else _HERE_ONLY
