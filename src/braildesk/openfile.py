@@ -327,10 +327,10 @@ class OpenFile:
         """The file, to be read from its front, and closed."""
         return open(os.open(self.path, _READ), "rb")
 
-    def save(self, program: StrPath | None, version: int) -> str:
+    def save(self, program: StrPath | None, version: int, is_stopped: bool) -> str:
         """Puts what is in the file to a new path beside its own, once no program has it open.
 
-        The version is the least that is in it.
+        The version is the least that is in it, or in the log where the program was stopped.
         """
         assert self._descriptor is not None
         try:
@@ -340,7 +340,7 @@ class OpenFile:
                     os.fsync(written.fileno())
                     self._give_access(written)
                     saved = os.fstat(written.fileno())
-                self._copy_log(made)
+                self._copy_log(made, is_stopped)
                 found = _version(made, program)
                 if found < version or has_work(f"{made}-wal"):
                     raise Failed("The program did not write all of it to its file.")
@@ -348,14 +348,16 @@ class OpenFile:
         except OSError as error:
             raise Failed(f"{of_failure(error)}.") from error
 
-    def _copy_log(self, made: Path) -> None:
+    def _copy_log(self, made: Path, is_stopped: bool) -> None:
         """Copies the log beside a copy of the file, if a program that was stopped left work there.
 
-        Once it was emptied into the file it has no name.
+        Once it was emptied into the file it has no name, nor has one that others removed.
         """
         noted = self._log_noted
         has_own = self._was_lent or noted is not None and noted.last
-        if self._log is not None and has_own and os.fstat(self._log).st_nlink:
+        if self._log is None or not has_own:
+            return
+        if is_stopped or os.fstat(self._log).st_nlink:
             with create(Path(f"{made}-wal")) as written:
                 copy_bytes(self._log, written.fileno())
 

@@ -2,6 +2,8 @@
 
 import os
 from collections.abc import Callable
+from threading import Event, Lock, Thread
+from typing import TypeVar
 
 from braildesk import program as programs
 from braildesk.openfile import OpenFile
@@ -12,6 +14,7 @@ from braildesk.protocol.sentences import Why
 from braildesk.refusals import CannotOpen, DeskError, Refused
 from braildesk.text.characters import shortened
 
+_Done = TypeVar("_Done")
 #: What is said where a command wasn't kept and what others wrote has spoiled the files besides.
 NOT_ALL_THERE = (
     "What was reported as kept isn't all in the book's file and its log: another program wrote into"
@@ -110,14 +113,15 @@ class Rescue:
             # nobody can tell, as if no copy can be made of it, or the program answers something else
             return True
 
-    def all_saved(self, version: int) -> tuple[str | None, str]:
+    def all_saved(self, version: int, is_stopped: bool) -> tuple[str | None, str]:
         """The file that has all of a book whose own isn't at its path, and what is said of it.
 
         That is a new one; or its own, if no new one can be made and that was moved with its folder.
-        The version is the least that the book has.
+        The version is the least that the book has. Its program may have been stopped, by which work is
+        left in the log.
         """
         try:
-            saved = self._file.save(self._program, version)
+            saved = self._file.save(self._program, version, is_stopped)
         except DeskError as failed:
             moved = self._file.moved_to
             if moved is not None and self._is_whole(moved, version):
@@ -171,6 +175,38 @@ class Rescue:
 
     def _shown_log(self) -> str:
         return _shown(log_path(self._book.path))
+
+
+def unstopped(act: Callable[[], _Done], stops: list[KeyboardInterrupt]) -> _Done:
+    """What something gives that is done in another thread, since Ctrl-C and the like stop only this one.
+
+    What would have stopped it is noted.
+    """
+    done, failed = list[_Done](), list[BaseException]()
+    is_begun, is_over = Lock(), Event()
+
+    def do() -> None:
+        # once, also where the beginning of a thread was stopped
+        if is_begun.acquire(blocking=False):
+            try:
+                done.append(act())
+            except BaseException as error:
+                failed.append(error)
+            is_over.set()
+
+    while not is_over.is_set():
+        try:
+            if not is_begun.locked():
+                Thread(target=do).start()
+            is_over.wait()
+        except RuntimeError:
+            # where no thread can be begun
+            do()
+        except KeyboardInterrupt as stop:
+            stops.append(stop)
+    for error in failed:
+        raise error
+    return done[0]
 
 
 def says_nothing(refused: Refused) -> bool:

@@ -86,6 +86,8 @@ class Session(Asking):
         #: Whether the file isn't looked at any more, since what it held is being saved.
         self._is_saving = False
         self._lost: Lost | None = None
+        #: The same where something else, as Ctrl-C, was raised in its place: ``close`` raises it.
+        self._untold: Lost | None = None
         self._acknowledged: Request[Any] | None = None
         #: Whether what the file holds was kept by this session, or by one that it goes on for.
         self._is_at_stake = False
@@ -125,6 +127,15 @@ class Session(Asking):
             if error is None:
                 raise
             error.add_note(lost.sentence)
+        except KeyboardInterrupt as stopped:
+            # it is closed in order all the same, and says what became of the book
+            try:
+                self.close()
+            except Lost as lost:
+                stopped.add_note(lost.sentence)
+            raise
+        if error is not None and self._strayed:
+            error.add_note(f"{self._strayed} Nothing was changed in it here.")
 
     def close(self) -> None:
         """Ends the session. What was acknowledged is in the file.
@@ -132,6 +143,9 @@ class Session(Asking):
         Of the requests that ``each`` sent ahead, those that were begun are carried out.
         """
         if self._is_closed:
+            untold, self._untold = self._untold, None
+            if untold is not None:
+                raise untold
             return
         if isinstance(sys.exception(), KeyboardInterrupt):
             self._pipe.hasten()
@@ -571,18 +585,49 @@ class Session(Asking):
     ) -> Lost:
         """The exception of a session whose file isn't at its path any more, with all of it saved.
 
-        Its program may have ended before that by itself, with commands that weren't answered.
+        Its program may have ended before that by itself, with commands that weren't answered. What would
+        stop the saving, as Ctrl-C, is raised once all is saved.
         """
+        stops = list[KeyboardInterrupt]()
+        try:
+            self._pipe.drop()
+            ending = self._pipe.close()
+        except KeyboardInterrupt as stop:
+            # the program has ended by then
+            stops.append(stop)
+            ending = self._pipe.close()
         self._is_closed = True
-        self._pipe.drop()
-        self._pipe.close()
-        cause = f"{ended}{self._rescue.gone()}"
-        saved, kept = self._rescue.all_saved(self._seen)
-        if saved is not None and waiting:
-            kept += " What was not reported as kept may be in it too."
+        lost = self._all_saved(ended, waiting, ending.status != 0, stops)
         self._file.close()
-        self._lost = lost = self._lost_as(Displaced, cause, kept, waiting)
-        lost.saved = saved
+        if stops:
+            raise stops[0]
+        self._untold = None
+        return lost
+
+    def _all_saved(
+        self,
+        ended: str,
+        waiting: tuple[Command[Any], ...],
+        is_stopped: bool,
+        stops: list[KeyboardInterrupt],
+    ) -> Displaced:
+        """The same, once all is saved; what would stop that is noted."""
+        from braildesk.rescue import unstopped  # which few sessions need
+
+        def save() -> Displaced:
+            cause = f"{ended}{self._rescue.gone()}"
+            saved, kept = self._rescue.all_saved(self._seen, is_stopped)
+            if saved is not None and waiting:
+                kept += " What was not reported as kept may be in it too."
+            lost = self._lost_as(Displaced, cause, kept, waiting)
+            lost.saved = saved
+            self._lost = self._untold = lost
+            return lost
+
+        lost = unstopped(save, stops)
+        if lost.saved is None and stops:
+            # Ctrl-C at a terminal ends also the program that looks at what is saved
+            lost = unstopped(save, stops)
         return lost
 
     def _overwritten(self) -> Lost:

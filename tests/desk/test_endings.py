@@ -183,23 +183,30 @@ def test_what_may_be_in_the_book_is_said_only_where_a_change_was_asked(
     assert f"line 6). {kept} Please report it" in at_fault.said
 
 
-@pytest.fixture
-def running(moon: Path) -> "subprocess.Popen[bytes]":
+def begun_run(
+    book: Path, asked: bytes = b"strike 1\n", answer: bytes = b"ok 8\n", **more: str
+) -> "subprocess.Popen[bytes]":
     """A run that has answered one request and waits for the next one."""
-    words = ("run", moon.name)
+    words = ("run", book.name)
     process = subprocess.Popen(
         [sys.executable, "-m", "scribe", *words],
-        cwd=moon.parent,
+        cwd=book.parent,
         stdin=subprocess.PIPE,
         stdout=subprocess.PIPE,
         stderr=subprocess.PIPE,
-        preexec_fn=scribe_in_copy(words, environment(), wait_for_program),
+        preexec_fn=scribe_in_copy(words, environment(**more), wait_for_program),
     )
     assert process.stdin is not None and process.stdout is not None
-    process.stdin.write(b"strike 1\n")
+    process.stdin.write(asked)
     process.stdin.flush()
-    assert process.stdout.readline() == b"ok 8\n"
+    assert process.stdout.readline() == answer
     return process
+
+
+@pytest.fixture
+def running(moon: Path) -> "subprocess.Popen[bytes]":
+    """A run that has answered one request and waits for the next one."""
+    return begun_run(moon)
 
 
 @pytest.mark.parametrize("number", STOPPING)
@@ -240,6 +247,55 @@ def test_an_end_after_the_book_was_replaced_says_where_what_was_kept_is(
     )
     assert running.wait() == (-signal.SIGTERM if is_by_signal else 3)
     assert braildesk.check(saved) == 8
+
+
+@pytest.mark.parametrize("name", ["SIGTERM", "SIGINT"])
+def test_a_signal_while_a_book_that_is_gone_is_saved_ends_scribe_once_that_is_done(
+    moon: Path, name: str
+) -> None:
+    program, folder = moon.with_name("program"), moon.parent
+    # as at a terminal, Ctrl-C ends the program too
+    program.write_text(
+        "#!/bin/sh\n"
+        f'if [ "$1" = check ] && mkdir "{folder}/once"; then\n'
+        f"  kill -{name[3:]} $PPID\n"
+        f"  if [ {name} = SIGINT ]; then kill -KILL $$; fi\n"
+        "fi 2> /dev/null\n"
+        f"exec '{braildesk.find()}' \"$@\"\n"
+    )
+    program.chmod(0o755)
+    process = begun_run(moon, BRAILDESK=str(program))
+    moon.unlink()
+    shown, said = process.communicate()
+    by, saved = "" if name == "SIGINT" else f" by {name}", Path(f"{moon}-saved-1")
+    assert (process.returncode, shown) == (-signal.Signals[name], b"")
+    assert said.decode() == (
+        f"Stopped{by}. The file of the book is no longer at “{moon.name}”: it was removed or moved"
+        " while it was open. All of the book, with what was kept last, is in the new file"
+        f" “{saved}”. Go on with that one, or look first what is at the old path by now.\n"
+    )
+    assert list(folder.glob("*-saved-*")) == [saved]
+    assert braildesk.check(saved) == 8
+
+
+@pytest.mark.parametrize("is_replaced", [True, False])
+def test_a_run_that_is_told_to_end_says_of_a_book_that_is_gone_that_nothing_was_changed(
+    moon: Path, is_replaced: bool
+) -> None:
+    process = begun_run(moon, b"version\n", b"end 7\n")
+    if is_replaced:
+        Path(shutil.copyfile(moon, moon.with_name("other"))).replace(moon)
+    else:
+        moon.unlink()
+    process.send_signal(signal.SIGTERM)
+    shown, said = process.communicate()
+    assert (process.returncode, shown) == (-signal.SIGTERM, b"")
+    what = "another one was put there" if is_replaced else "it was removed or moved"
+    assert said.decode() == (
+        f"Stopped by SIGTERM. The file of the book is no longer at “{moon.name}”: {what} while it"
+        " was open. Nothing was changed in it here.\n"
+    )
+    assert not list(moon.parent.glob("*-saved-*"))
 
 
 def test_the_limit_on_processor_time_stops_scribe_in_a_sentence(

@@ -829,6 +829,21 @@ def test_a_talk_whose_book_is_gone_says_no_version_of_it(
     assert saved.exists() is kept
 
 
+def test_a_talk_that_is_told_to_end_says_of_a_book_that_is_gone_that_nothing_was_changed(
+    talk: Prompted, moon: Path
+) -> None:
+    talk.type("list")
+    moon.unlink()
+    ran = talk.stop_by(signal.SIGTERM)
+    assert ran.status == -signal.SIGTERM
+    said = ran.shown.replace("\r", "").partition("Stopped by ")[2]
+    # in lines of the terminal's width, which part the path too
+    assert "".join(said.split()) == "".join(
+        f"SIGTERM. The file of the book is no longer at “{moon}”: it was removed or moved while it was"
+        " open. Nothing was changed in it here.".split()
+    )
+
+
 def test_a_talk_goes_on_where_the_mark_in_hand_is_no_more(
     talk: Prompted, moon: Path, made_once: Path
 ) -> None:

@@ -243,7 +243,13 @@ class Desk:
     def close(self) -> None:
         """Ends the session; what was kept is in the book."""
         try:
-            self._session.close()
+            try:
+                self._session.close()
+            except Interrupted as stop:
+                # all of a book that is gone may be saved by then
+                if isinstance(self._session.lost, Displaced):
+                    raise self._session.lost from stop
+                raise
         except Displaced as lost:
             self._follow(lost)
             raise
