@@ -83,11 +83,6 @@ class Rescue:
             " stands there before you go on."
         )
 
-    def without_file(self) -> str:
-        """Where all that was kept was, if the file isn't at its path any more and the program ended."""
-        of_all = "All up to it was in the book's file and its log"
-        return f"{of_all}, {self._shown_log()}. {self.gone()}"
-
     def without_log(self) -> str:
         """That the log isn't at its path any more, once all of it is in the file."""
         return (

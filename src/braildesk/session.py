@@ -439,7 +439,7 @@ class Session(Asking):
             # the program has given up the room of its log by now
             room = opening.room(self._book.path)
         refusal = refused_as(Refusal(Code.NOT_KEPT, request, why=why, room=room))
-        if self._rescue.has(self._seen):
+        if not self._file.is_at_its_path or self._rescue.has(self._seen):
             return self._lose(Lost, refusal.sentence)
         self._is_closed = True
         waiting = tuple(each for each in self._sent if isinstance(each, Command))
@@ -561,8 +561,9 @@ class Session(Asking):
             while isinstance(self._sent.pop(), Refused):
                 pass
         waiting = tuple(each for each in self._sent if isinstance(each, Command))
-        if not self._file.is_at_its_path and os.path.lexists(self._file.path):
-            # the other file that is there now isn't to be taken for the book
+        is_there = self._is_at_stake or os.path.lexists(self._file.path)
+        if is_there and not self._file.is_at_its_path:
+            # nor is another file that is there now to be taken for the book
             return self._displaced(f"{cause} ", waiting)
         kept = self._kept(waiting)
         self._lost = self._lost_as(kind, cause, kept, waiting)
@@ -659,18 +660,12 @@ class Session(Asking):
         """The print of all paragraphs, with an empty line between each and the next."""
         return "\n\n".join(self.print_of(each.id) for each in self.paragraphs()) + "\n"
 
-    def _where_kept(self) -> str:
-        """Where all is that was reported as kept, once the program ended."""
-        if self._file.is_at_its_path:
-            return "All up to it is in the book."
-        return self._rescue.without_file()
-
     def _kept(self, waiting: Sequence[Command[Any]]) -> str:
         """What is in the book after all, and what may be."""
         if self._acknowledged is not None:
             known = (
                 f"The last command that was reported as kept is {self._acknowledged.in_words()}, by"
-                f" which the book came to version {self._seen}. {self._where_kept()}"
+                f" which the book came to version {self._seen}. All up to it is in the book."
             )
         elif waiting:
             known = "No command of this session was reported as kept."

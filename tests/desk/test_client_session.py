@@ -34,6 +34,7 @@ from braildesk import (
 )
 from braildesk import openfile
 from braildesk.held import copy_held
+from braildesk.openfile import OpenFile
 from braildesk.pipe import Ending, Pipe
 from braildesk.protocol.replies import Reader, Reply, Unreadable
 from braildesk import session as session_module
@@ -770,41 +771,159 @@ def test_of_a_book_whose_folder_was_renamed_it_is_said_where_it_was(
     )
 
 
-def test_of_a_book_that_is_gone_as_its_program_ends_it_is_said_where_it_was(
-    book: Path,
-) -> None:
-    with pytest.raises(SessionEnded) as caught, Session(book) as session:
-        session.add_paragraph("end", "en", "One.")
-        book.rename(book.with_name("other"))
-        os.kill(session.pid, signal.SIGKILL)
-        session.version()
-    assert caught.value.kept == (
-        "The last command that was reported as kept is the new paragraph “One.”, by which the book"
-        f" came to version 2. All up to it was in the book's file and its log, “{book}-wal”. The"
-        f" file of the book is no longer at “{book}”: it was removed or moved while it was open."
-    )
+def removed_with_its_log(book: Path) -> None:
+    book.unlink()
+    Path(f"{book}-wal").unlink()
 
 
-@pytest.mark.parametrize("kept", [0, 1, 300])
-def test_a_book_is_saved_that_was_replaced_as_its_program_ended(
-    book: Path, kept: int
+@pytest.mark.parametrize(
+    "moved, kept",
+    [(replaced, 0)]
+    + [
+        (moved, kept)
+        for moved in (replaced, removed, renamed, removed_with_its_log)
+        for kept in (1, 300)
+    ],
+)
+def test_a_book_is_saved_that_is_gone_as_its_program_ends(
+    book: Path, moved: Callable[[Path], None], kept: int
 ) -> None:
     with pytest.raises(Displaced) as caught, Session(book) as session:
         texts = [f"Line {number}." for number in range(kept)]
         list(session.each(requests.Type("end", "en", text) for text in texts))
-        replaced(book)
+        moved(book)
         os.kill(session.pid, signal.SIGKILL)
         session.version()
     lost, saved = caught.value, f"{book}-saved-1"
     assert (lost.version, lost.unanswered, lost.saved) == (kept + 1, (), saved)
+    what = "another one was put there"
+    if moved is not replaced:
+        what = "it was removed or moved"
     assert lost.sentence == (
-        f"The session was ended by signal 9. The file of the book is no longer at “{book}”: another"
-        " one was put there while it was open. All of the book, with what was kept last, is in the"
-        f" new file “{saved}”. Go on with that one, or look first what is at the old path by now."
+        f"The session was ended by signal 9. The file of the book is no longer at “{book}”: {what}"
+        " while it was open. All of the book, with what was kept last, is in the new file"
+        f" “{saved}”. Go on with that one, or look first what is at the old path by now."
     )
     assert not Path(f"{saved}-wal").exists()
     with Session(saved) as session:
         assert [session.print_of(each.id) for each in session.paragraphs()] == texts
+
+
+@pytest.mark.parametrize("moved", [removed, renamed])
+def test_a_book_in_which_nothing_was_changed_is_not_saved_where_it_is_gone_as_its_program_ends(
+    book: Path, moved: Callable[[Path], None]
+) -> None:
+    with pytest.raises(SessionEnded) as caught, Session(book) as session:
+        moved(book)
+        os.kill(session.pid, signal.SIGKILL)
+        session.version()
+    assert caught.value.kept == "Nothing was changed by this session."
+    assert not list(book.parent.glob("*-saved-*"))
+
+
+@pytest.mark.parametrize("moved", [removed, renamed, replaced])
+def test_a_book_is_saved_that_is_gone_as_a_command_is_not_kept(
+    book: Path, monkeypatch: pytest.MonkeyPatch, moved: Callable[[Path], None]
+) -> None:
+    with monkeypatch.context() as patched:
+        for name, value in standing_in(2, READ, REPLY, "no 91").items():
+            patched.setenv(name, value)
+        session = Session(book)
+    session.add_paragraph("end", "en", "One.")
+    moved(book)
+    with pytest.raises(Displaced) as caught:
+        session.add_paragraph("end", "en", "Two.")
+    lost = caught.value
+    assert lost.cause.startswith("The new paragraph “Two.” was not reported as kept,")
+    assert lost.unanswered == (requests.Type("end", "en", "Two."),)
+    assert lost.saved == f"{book}-saved-1"
+    with Session(lost.saved) as session:
+        assert session.print_of(1) == "One."
+
+
+def interrupting(
+    monkeypatch: pytest.MonkeyPatch, is_ended: bool
+) -> Callable[[], list[Path]]:
+    """Has Ctrl-C come as a book that is gone is being saved; gives what was looked at."""
+    looked_at, check = list[Path](), openfile._version
+
+    def stopped(made: Path, program: str | None) -> int:
+        looked_at.append(made)
+        if len(looked_at) == 1:
+            os.kill(os.getpid(), signal.SIGINT)
+            # as at a terminal, where Ctrl-C ends the program too
+            if is_ended:
+                raise Failed("The program was ended.")
+        return check(made, program)
+
+    monkeypatch.setattr(openfile, "_version", stopped)
+    return lambda: looked_at
+
+
+@pytest.mark.parametrize("is_ended", [False, True])
+@pytest.mark.parametrize("moment", ["before a command", "before the end"])
+def test_ctrl_c_while_a_book_that_is_gone_is_saved_comes_once_that_is_done(
+    book: Path, monkeypatch: pytest.MonkeyPatch, moment: str, is_ended: bool
+) -> None:
+    looked_at = interrupting(monkeypatch, is_ended)
+    with pytest.raises(KeyboardInterrupt) as stopped, Session(book) as session:
+        session.add_paragraph("end", "en", "One.")
+        removed(book)
+        if moment == "before a command":
+            session.add_paragraph("end", "en", "Two.")
+    assert len(looked_at()) == 1 + is_ended
+    lost, saved = session.lost, Path(f"{book}-saved-1")
+    assert isinstance(lost, Displaced) and lost.saved == str(saved)
+    assert stopped.value.__notes__ == [lost.sentence]
+    assert list(book.parent.glob("*-saved-*")) == [saved]
+    with Session(saved) as session:
+        assert session.print_of(1) == "One."
+
+
+def test_ctrl_c_while_it_is_looked_at_the_file_at_the_end_leaves_no_book_unsaved(
+    book: Path, monkeypatch: pytest.MonkeyPatch
+) -> None:
+    with pytest.raises(KeyboardInterrupt) as stopped, Session(book) as session:
+        session.add_paragraph("end", "en", "One.")
+        removed(book)
+        look, stops = OpenFile.is_written_into, iter([True])
+
+        def interrupted(file: OpenFile) -> bool:
+            if next(stops, False):
+                raise KeyboardInterrupt
+            return bool(look.__get__(file))
+
+        monkeypatch.setattr(OpenFile, "is_written_into", property(interrupted))
+    lost = session.lost
+    assert isinstance(lost, Displaced) and lost.saved == f"{book}-saved-1"
+    assert stopped.value.__notes__ == [lost.sentence]
+    with Session(lost.saved) as session:
+        assert session.print_of(1) == "One."
+
+
+def test_a_session_that_ctrl_c_stopped_as_its_book_was_saved_says_so_at_its_end(
+    book: Path, monkeypatch: pytest.MonkeyPatch
+) -> None:
+    interrupting(monkeypatch, False)
+    session = Session(book)
+    removed(book)
+    with pytest.raises(KeyboardInterrupt):
+        session.add_paragraph("end", "en", "One.")
+    with pytest.raises(Displaced) as caught:
+        session.close()
+    assert caught.value.saved == f"{book}-saved-1"
+    session.close()
+
+
+def test_ctrl_c_while_a_session_only_asked_says_what_became_of_the_file(
+    book: Path,
+) -> None:
+    with pytest.raises(KeyboardInterrupt) as stopped, Session(book) as session:
+        removed(book)
+        raise KeyboardInterrupt
+    assert stopped.value.__notes__ == [
+        f"{session.strayed} Nothing was changed in it here."
+    ]
 
 
 def test_of_a_command_that_was_not_answered_as_a_book_was_replaced_it_is_said_so(

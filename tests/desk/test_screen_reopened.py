@@ -9,13 +9,14 @@ from pathlib import Path
 
 import pytest
 
-from braildesk import Displaced, Session
+from braildesk import Displaced, Session, pipe
 from braildesk.desk.draft import Aim, Draft
 from braildesk.desk.drafts import Drafts
 from braildesk.desk.own_folder import OwnFolder
 
 from scribe.screen.desk import Desk
 from scribe.screen.state import Size
+from scribe.words.status import Interrupted
 from sitting import Sat, Sit
 from stand_in import ANSWERED, HALF, KEPT, KILL_PROGRAM, READ, REPLY, SEND
 from terminal import Open, once_free, standing_in
@@ -649,6 +650,56 @@ def test_another_book_that_is_there_as_a_session_ends_is_not_taken_for_this_one(
     Path(f"{moon}-wal").unlink(missing_ok=True)
     with Session(moon) as session:
         assert (session.last_version, len(session.paragraphs())) == (9, 3)
+
+
+@pytest.mark.parametrize("is_whole", [True, False])
+def test_a_book_that_is_gone_as_its_session_ends_is_said_to_be_where_all_of_it_is(
+    moon: Path, sit: Sit, is_whole: bool
+) -> None:
+    sat = sit(moon)
+    sat.press("s", "o", *"Es war")
+    sat.state = sat.desk.save_draft(sat.state)
+    moon.unlink()
+    if is_whole:
+        Path(f"{moon}-wal").unlink()
+    killed(sat)
+    saved = Path(f"{moon}-saved-1")
+    assert sat.state.is_lost and sat.state.pages
+    assert sat.state.pages.lines == (
+        f"The session was ended by signal 9. The file of the book is no longer at “{moon}”: it was"
+        " removed or moved while it was open. All of the book, with what was kept last, is in the new"
+        f" file “{saved}”. Go on with that one, or look first what is at the old path by now.",
+        "This was typed, and was not reported as kept:",
+        "Es war",
+        "It is kept, and is offered when that file is opened. Until then it is in"
+        f" {sat.desk.drafts.place}.",
+    )
+    again = sit(saved)
+    again.press("y", "enter")
+    assert again.state.book[0].struck
+    assert prints(again)[1] == "Es war"
+
+
+def test_a_book_that_is_gone_is_saved_where_its_program_does_not_answer_at_the_end(
+    moon: Path, sit: Sit, monkeypatch: pytest.MonkeyPatch
+) -> None:
+    def told_to_end() -> None:
+        raise Interrupted(signal.SIGTERM)
+
+    sat = sit(moon)
+    sat.press("s", "o", *"Es war")
+    sat.state = sat.desk.saved(sat.state)
+    moon.unlink()
+    os.kill(sat.desk.pid, signal.SIGSTOP)
+    sat.desk.while_waiting = told_to_end
+    with monkeypatch.context() as patched, pytest.raises(Displaced) as caught:
+        patched.setattr(pipe, "_LONG", 10)
+        sat.desk.close()
+    assert caught.value.saved == f"{moon}-saved-1"
+    again = sit(Path(caught.value.saved))
+    again.press("y", "enter")
+    assert again.state.book[0].struck
+    assert prints(again)[1] == "Es war"
 
 
 def test_another_book_that_came_after_a_session_ended_is_not_said_to_be_this_one(
