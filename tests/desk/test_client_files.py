@@ -3056,6 +3056,35 @@ def test_of_a_folder_of_ones_own_above_that_of_a_book_nobody_else_is_asked(
     assert made == f"You aren't permitted to open “{path.with_name('new')}”. {said}"
 
 
+@NEEDS_ROOT
+def test_of_a_folder_of_somebody_else_above_that_of_a_book_its_owner_is_asked(
+    book: Path, open_folder: Path
+) -> None:
+    folder = open_folder / "a folder"
+    own = folder / "books"
+    own.mkdir(parents=True)
+    path = Path(shutil.copyfile(book, own / "book"))
+    os.chown(own, 65534, 65534)
+    # nor is one's own below that of somebody else named, which isn't seen
+    own.chmod(0o600)
+    folder.chmod(0o700)
+    to = open_folder / "copied"
+    looked = as_nobody(LOOKING, path, to).splitlines()
+    (opened, *_) = as_nobody(ATTEMPTS, path, to).splitlines()
+    assert (
+        looked
+        == [
+            f"You aren't permitted to read “{path}”. Nothing was changed. Ask who owns its folder for leave"
+            " to enter that."
+        ]
+        * 3
+    )
+    assert opened == (
+        f"You aren't permitted to open “{path}”. Nothing was changed. Ask who owns it for leave to read"
+        " and write it and to write in its folder."
+    )
+
+
 def test_a_table_that_may_not_be_read_is_to_be_read_alone(open_folder: Path) -> None:
     path = open_folder / "own.utb"
     path.write_text("space \\s 0\n")
