@@ -352,8 +352,8 @@ def test_that_others_changed_a_book_before_it_was_opened_again_is_said_to_bar_ta
         session.set_begins_volume(2, True)
     desk.act("open_again")
     assert desk.window.message.text == (
-        "The book is open again, at version 7. Ctrl+Z no longer takes back what was done before it"
-        " was opened again."
+        "The file that is at the path now is open, at version 7. Ctrl+Z no longer takes back what was"
+        " done before it was opened again."
     )
     desk.act("take_back")
     assert desk.window.message.text.startswith("There is nothing that Ctrl+Z could")
