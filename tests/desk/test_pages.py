@@ -374,6 +374,83 @@ def test_each_word_stands_on_the_line_on_which_its_own_cells_are_embossed(
                     assert (there.page, there.line) == (each.row.page, each.row.line)
 
 
+def embossed_places(path: Path, page_size: PageSize) -> list[tuple[int, int]]:
+    """The page and line of each cell with dots of an exported volume, in their order."""
+    written = braildesk.export(path, 1, page_size.width, page_size.lines).decode()
+    return [
+        (page, line)
+        for page, text in enumerate(written.split("\f")[:-1], 1)
+        for line, cells in enumerate(text.split("\r\n")[: page_size.text_lines], 1)
+        for _ in cells.replace(" ", "")
+    ]
+
+
+def neighbour(session: Session, number: int, text: str, place: int) -> int:
+    """The letter on whose line a character is: itself, or for a blank one beside it.
+
+    That is the one before, unless the blank was made into cells as one with the one after it alone.
+    """
+    if text[place] != " ":
+        return place
+    before = [n for n in range(place) if text[n] != " "]
+    after = [n for n in range(place, len(text)) if text[n] != " "]
+    cell = session.output_position(number, place)
+    is_own = [n for n in before[-1:] if session.output_position(number, n) == cell]
+    goes_on = [n for n in after[:1] if session.output_position(number, n) == cell]
+    return [*is_own, *goes_on, *before[-1:], *after][0]
+
+
+@settings(
+    max_examples=60,
+    deadline=None,
+    suppress_health_check=[HealthCheck.function_scoped_fixture],
+)
+@given(st.lists(PARTED, min_size=1, max_size=3), st.integers(10, 24))
+def test_each_character_is_said_to_be_where_its_word_is_embossed(
+    tmp_path: Path, texts: list[str], width: int
+) -> None:
+    path, page_size = tmp_path / "random.braildesk", PageSize(width, 5)
+    path.unlink(missing_ok=True)
+    new_book(path)
+    found, wanted, letters = [], [], 0
+    with Session(path) as session:
+        session.put_table("across", ACROSS)
+        for text in texts:
+            number = session.add_paragraph("end", "across", text).id
+            places = PageMap(session, page_size)
+            for place in range(len(text)) if text.strip() else ():
+                its = neighbour(session, number, text, place)
+                wanted.append(letters + len(text[:its].replace(" ", "")))
+                found.append(places.of_character(number, place, text))
+            letters += len(text.replace(" ", ""))
+    there = embossed_places(path, page_size)
+    assert len(there) == letters
+    assert [each and (each.page, each.line) for each in found] == [
+        there[nth] for nth in wanted
+    ]
+
+
+def test_a_mark_on_a_word_made_as_one_with_the_blank_before_it_is_on_the_words_line(
+    empty_book: Path,
+) -> None:
+    with Session(empty_book) as session:
+        session.put_table("across", ACROSS)
+        session.add_paragraph("end", "across", "f f f f ca")
+        # on the blank, which has no line, and on the cell of the letter after it
+        session.add_mark(1, 7, 2, "so?")
+        assert [mark.start for mark in session.marks_of(1)] == [7]
+    assert braildesk.export(empty_book, 1, 10, 5).startswith(b"  F F F F\r\nCA\r\n")
+    size = ("--pages", "--page-width", "10", "--page-lines", "5")
+    there = "volume 1, page 1, line 2"
+    ran = scribe("marks", empty_book, *size, folder=empty_book.parent)
+    assert ran.shown == f"Mark 1, open, {there}, paragraph 1, on “ c”: so?\n"
+    for words in ("ca", " ca"):
+        ran = scribe("find", empty_book, words, *size, folder=empty_book.parent)
+        assert ran.shown.startswith(f"Paragraph 1, {there}, character ")
+    ran = scribe("find", empty_book, "f c", *size, folder=empty_book.parent)
+    assert ran.shown.startswith("Paragraph 1, volume 1, page 1, line 1, character 7:")
+
+
 @pytest.mark.parametrize(
     "rule, width, shown, lines",
     [

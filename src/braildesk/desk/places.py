@@ -130,7 +130,8 @@ def cells_on_lines(session: Session, asked: Sequence[Character]) -> list[int]:
     """A cell on the line of each of some characters.
 
     It is the first that was made for the character; but a line may be broken at an empty cell among
-    those that were made as one, so it is the first of the character's word there.
+    those that were made as one, so it is the first of the character's word there. A blank before the
+    first of these words goes with it.
     """
     cells = list(answers(session, (Where(its.paragraph, its.place) for its in asked)))
     whences = (Whence(its.paragraph, cell) for its, cell in zip(asked, cells))
@@ -144,10 +145,10 @@ def cells_on_lines(session: Session, asked: Sequence[Character]) -> list[int]:
 def _of_word(session: Session, its: Character, first: int, cell: int) -> int:
     """The first cell of the word of a character, by the first place and cell made as one with it."""
     count = len(_WORD.findall(its.text, first, its.place + 1))
-    if not count or count == 1 and its.braille[cell] != EMPTY_CELL:
+    if count < 2 and its.braille[cell] != EMPTY_CELL:
         return cell
-    _, runs = _made_as_one(session, its.paragraph, cell, its.text, its.braille)
-    return runs[min(count, len(runs)) - 1].start if runs else cell
+    _, runs = made_as_one(session, its.paragraph, cell, its.text, its.braille)
+    return runs[min(max(count, 1), len(runs)) - 1].start if runs else cell
 
 
 def words_on_line(
@@ -155,18 +156,18 @@ def words_on_line(
 ) -> Span:
     """The print that stands on the line of some cells, of which the first and the last have dots."""
     start, stop = words_of(session, paragraph, cells, text, braille)
-    words, runs = _made_as_one(session, paragraph, cells.start, text, braille)
+    words, runs = made_as_one(session, paragraph, cells.start, text, braille)
     begun = sum(run.start <= cells.start for run in runs)
     if words:
         start = words[min(begun, len(words)) - 1].start
-    words, runs = _made_as_one(session, paragraph, cells.stop - 1, text, braille)
+    words, runs = made_as_one(session, paragraph, cells.stop - 1, text, braille)
     begun = sum(run.start < cells.stop for run in runs)
     if begun < min(len(words), len(runs)):
         stop = words[begun - 1].stop
     return Span(start, stop)
 
 
-def _made_as_one(
+def made_as_one(
     session: Session, paragraph: int, cell: int, text: str, braille: str
 ) -> tuple[list[Span], list[Span]]:
     """The words, and the runs of cells with dots, of what was made into cells as one with a cell."""
