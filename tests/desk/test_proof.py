@@ -216,6 +216,30 @@ def test_as_many_words_as_runs_of_cells_are_no_sign_that_these_are_theirs(
     assert [each.text for each in page.lines[0].words if each.is_marked] == ["moon"]
 
 
+def test_words_made_into_cells_as_one_stand_each_under_its_own_cells(
+    book: Path,
+) -> None:
+    table = b"space \\s 0\nletter a 1\nletter b 12\nletter c 14\nletter f 124\n"
+    table += (
+        b"always c\\sf\\sa 14-0-124-0-1\nalways ba 0-14-14-14\nalways f\\sc 124-0\n"
+    )
+    with Session(book) as session:
+        session.put_table("own", table)
+        session.add_paragraph("end", "own", "b c f a c")
+        session.add_mark(1, 4, 1, "on all")
+        session.add_paragraph("end", "own", "f ba cb")
+        session.add_paragraph("end", "own", "a f c b")
+    (page,) = pages_of(book, PageSize(40, 10))
+    shown = [[(each.cells, each.text) for each in line.words] for line in page.lines]
+    assert shown == [
+        [("⠃", "b"), ("⠉", "c"), ("⠋", "f"), ("⠁", "a"), ("⠉", "c")],
+        [("⠋", "f"), ("⠉⠉⠉", "ba"), ("⠉⠃", "cb")],
+        [("⠁", "a"), ("⠋", "f c"), ("⠃", "b")],
+    ]
+    marked = [each.text for each in page.lines[0].words if each.is_marked]
+    assert marked == ["c", "f", "a"]
+
+
 def test_struck_paragraphs_and_empty_volumes_have_no_place(moon: Path) -> None:
     with Session(moon) as session:
         session.set_begins_volume(3, True)

@@ -8,7 +8,7 @@ from itertools import groupby
 
 from braildesk import Mark, Paragraph, Session, Style
 from braildesk.desk.layout import PageSize, Row, Volume, parted, volume
-from braildesk.desk.places import Character, cells_on_lines
+from braildesk.desk.places import Character, cells_on_lines, made_as_one
 from braildesk.desk.readings import answers, prints
 from braildesk.protocol.requests import Marks, Whence, Where
 from braildesk.text.cells import EMPTY_CELL
@@ -145,7 +145,7 @@ def _words(
     }
     paired = _paired(session, runs, texts)
     others = {number: each for number, each in runs.items() if number not in paired}
-    return paired | _told_by_the_book(session, others, texts)
+    return paired | _told_by_the_book(session, others, texts, its.brailles)
 
 
 def _paired(
@@ -177,6 +177,7 @@ def _told_by_the_book(
     session: Session,
     runs_of: Mapping[int, Sequence[tuple[int, int]]],
     texts: Mapping[int, str],
+    brailles: Mapping[int, str],
 ) -> dict[int, list[_Word]]:
     """The words of paragraphs, of which the book says where each run of cells comes from."""
     asked = (
@@ -189,11 +190,13 @@ def _told_by_the_book(
     cells_of = _in_turn(answers(session, begun), runs_of)
     found: dict[int, list[_Word]] = {}
     for number, runs in runs_of.items():
-        text = texts[number]
+        text, cells = texts[number], brailles[number]
         places = zip(runs, firsts_of[number], cells_of[number])
         firsts = [
             # a sign may stand for the end of the word before, a blank and this one's front
-            _after_blank(text, place) if cell < start else place
+            _first_begun(session, Character(number, place, text, cells), start)
+            if cell < start
+            else place
             for (start, _), place, cell in places
         ]
         lasts = [*firsts[1:], len(text)]
@@ -207,6 +210,20 @@ def _in_turn(
 ) -> dict[int, list[int]]:
     """Numbers that were asked for runs of paragraphs, one after the other."""
     return {number: [next(found) for _ in its] for number, its in runs.items()}
+
+
+def _first_begun(session: Session, its: Character, cell: int) -> int:
+    """The place of the word that begins with a cell made as one with those before it.
+
+    Those before may have other words, or the front of the same one, which goes on with this cell.
+    """
+    words, runs = made_as_one(session, its.paragraph, cell, its.text, its.braille)
+    before = sum(run.start < cell for run in runs)
+    if before < len(words):
+        place = words[before].start
+        if not place or its.text[place - 1].isspace():
+            return place
+    return _after_blank(its.text, words[-1].start if words else its.place)
 
 
 def _after_blank(text: str, place: int) -> int:
