@@ -14,6 +14,7 @@ from scribe.screen.drawing import draw
 from scribe.screen.state import Size
 from scribe.words import pagelook
 from sitting import Sat, Sit
+from tool import Ran, scribe
 
 SENTENCE = "Twice a day the sea comes up. "
 
@@ -299,3 +300,20 @@ def test_where_the_cells_can_not_go_on_pages_the_marks_are_listed_without_them(
     sat.press("escape", "up", "b", "H")
     assert sat.state.pages and sat.state.pages.title == f"2 headings. {why}"
     assert sat.state.pages.lines[0] == "ab, volume 1, not laid out, paragraph 1"
+
+
+def test_a_mark_without_words_is_on_no_page_also_in_a_volume_that_is_not_laid_out(
+    empty_book: Path, sit: Sit
+) -> None:
+    with Session(empty_book) as session:
+        session.put_table("own", b"space \\s 0\nletter a 1\nletter b 17\n")
+        session.add_paragraph("end", "own", " ")
+        session.add_paragraph("end", "own", "b")
+        session.add_mark(1, 0, 1, "why?")
+    said = "Mark 1, open, on no page, paragraph 1, on “ ”: why?"
+    ran = scribe("marks", empty_book, "--pages", folder=empty_book.parent)
+    assert ran == Ran(0, f"{said}\n", "The book has 1 open mark.\n")
+    sat = sit(empty_book)
+    sat.press("M")
+    assert sat.state.pages and sat.state.pages.lines == (said,)
+    assert sat.state.pages.title == "1 open mark."

@@ -9,6 +9,7 @@ from braildesk.desk.layout import sections
 from braildesk.desk.marks import MarkOfBook, all_marks
 from braildesk.desk.places import Character, cells_on_lines
 from braildesk.desk.readings import brailles, prints
+from braildesk.text.cells import EMPTY_CELL
 from braildesk.text.characters import visible
 from braildesk.text.excerpt import opening
 
@@ -60,28 +61,25 @@ class PagesInWords:
             if volume.fault
             for its in volume.paragraphs
         }
-
-    def faults(self, places: Sequence[tuple[Paragraph, int]]) -> list[str]:
-        """Why volumes of some paragraphs aren't laid out, each once."""
-        its = (self._not_laid_out.get(each.id) for each, _ in places)
-        return list({volume.number: volume.fault for volume in its if volume}.values())
+        #: Why volumes of places that were asked for aren't laid out, by their numbers.
+        self.faults: dict[int, str] = {}
 
     def of(self, places: Sequence[tuple[Paragraph, int]]) -> list[str]:
         """In words: the page and line of a cell of each of some paragraphs."""
         return list(self._of(places))
 
     def _of(self, places: Sequence[tuple[Paragraph, int]]) -> Iterator[str]:
-        known = [its for its, _ in places if its.id in self._lines]
-        read = {its.id: its for its in known if self._lines[its.id][1]}
+        read = {its.id: its for its, _ in places if not its.struck}
         cells = list(sections(self._session, list(read.values())))
         found = dict(zip(read, cells))
         for its, cell in places:
             if its.struck:
                 yield _STRUCK
-            elif its.id in self._not_laid_out:
-                yield f"{self._front(self._not_laid_out[its.id])}not laid out"
-            elif its.id not in found:
+            elif not found[its.id].braille.strip(EMPTY_CELL):
                 yield "on no page"
+            elif volume := self._not_laid_out.get(its.id):
+                self.faults[volume.number] = volume.fault
+                yield f"{self._front(volume)}not laid out"
             else:
                 volume, lines = self._lines[its.id]
                 line = line_of(volume, found[its.id], lines, cell)
@@ -124,7 +122,7 @@ def marks_list(session: Session, state: State, layouts: Layouts, tell: Report) -
     opened = sum(not each.mark.resolved for each in marks)
     front = {0: "No open marks", 1: "1 open mark"}.get(opened, f"{opened:,} open marks")
     rest = f", {len(marks) - opened:,} resolved" if len(marks) > opened else ""
-    title = " ".join([f"{front}{rest}.", *numbers.faults(places)])
+    title = " ".join([f"{front}{rest}.", *numbers.faults.values()])
     pages = Pages(title, lines, targets=targets)
     return replace(state, pages=_at_nearest(state, pages, opened or len(marks)))
 
@@ -151,7 +149,7 @@ def headings_list(
     )
     targets = tuple(Target(each.id) for each in found)
     count = "1 heading" if len(found) == 1 else f"{len(found):,} headings"
-    title = " ".join([f"{count}.", *numbers.faults(places)])
+    title = " ".join([f"{count}.", *numbers.faults.values()])
     return at_chosen(state, Pages(title, lines, targets=targets))
 
 
