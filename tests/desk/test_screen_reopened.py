@@ -1094,6 +1094,21 @@ def test_of_a_text_that_waits_it_is_said_which_paragraph_before_the_newest_reads
     )
 
 
+@pytest.mark.parametrize("aim", [Aim.AFTER, Aim.BEFORE])
+def test_a_text_that_waits_is_not_taken_for_the_paragraph_beside_which_it_was_typed(
+    moon: Path, sit: Sit, aim: Aim
+) -> None:
+    with Session(moon) as session:
+        version, text = session.last_version, session.print_of(3)
+        Drafts(moon).save(Draft(aim, 3, "en", "", text, version=version))
+        # somebody else went on
+        session.add_mark(1, 0, 1, "why?")
+    question = sit(moon).state.question
+    assert question is not None and question.sentence.startswith(
+        "A text of a new paragraph was typed and isn't in the book: "
+    )
+
+
 def typed_elsewhere(moon: Path) -> Drafts:
     """Another session of the book, as of another terminal, has a text wait, and is gone."""
     drafts = Drafts(moon)

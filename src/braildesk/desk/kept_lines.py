@@ -61,7 +61,7 @@ def lines_kept(
     if draft.version is None or version <= draft.version:
         return 0
     lines = [composed(line) for line in draft.text.split("\n")]
-    newest = sorted(numbers)[-min(version - draft.version, len(lines)) :]
+    newest = _since(draft, numbers)[-min(version - draft.version, len(lines)) :]
     asked = [Print(number) for number in newest]
     prints = [composed(text) for text in answers(session, asked)]
     return overlap(prints, lines)
@@ -76,11 +76,16 @@ def reads_the_same(
     """
     if not draft.aim.is_new or draft.version is None or version <= draft.version:
         return None
-    since = sorted(numbers)[-min(version - draft.version, _MOST_SINCE) :]
+    since = _since(draft, numbers)[-min(version - draft.version, _MOST_SINCE) :]
     wanted = composed(draft.text)
     prints = answers(session, [Print(number) for number in since])
     found = [number for number, text in zip(since, prints) if composed(text) == wanted]
     return max(found, default=None)
+
+
+def _since(draft: Draft, numbers: Sequence[int]) -> list[int]:
+    """The paragraphs that are newer than the one where a text was typed, which was there by then."""
+    return sorted(number for number in numbers if number > (draft.paragraph or 0))
 
 
 def lines_left(
