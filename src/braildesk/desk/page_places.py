@@ -42,12 +42,26 @@ class PageMap:
 
     def of_character(self, paragraph: int, place: int, text: str) -> PagePlace | None:
         """Where a character of a print stands; none if that is on no page."""
-        if not text or paragraph not in self._placed:
-            return None
-        last, (_, placed) = min(place, len(text) - 1), self._placed[paragraph]
-        its = Character(paragraph, last, text, placed.section.braille)
-        (cell,) = cells_on_lines(self._session, [its])
-        return self.of_cell(paragraph, cell)
+        return next(self.of_characters([(paragraph, place, text)]))
+
+    def of_characters(
+        self, asked: Sequence[tuple[int, int, str]]
+    ) -> Iterator[PagePlace | None]:
+        """The same for each of some: its paragraph, its place, and the print."""
+        known = [
+            Character(
+                number,
+                min(place, len(text) - 1),
+                text,
+                self._placed[number][1].section.braille,
+            )
+            for number, place, text in asked
+            if text and number in self._placed
+        ]
+        cells = iter(cells_on_lines(self._session, known))
+        for number, _, text in asked:
+            is_known = text and number in self._placed
+            yield self.of_cell(number, next(cells)) if is_known else None
 
     def of_cell(self, paragraph: int, cell: int) -> PagePlace | None:
         """Where a cell of a paragraph stands; none if that is on no page."""

@@ -1,7 +1,7 @@
 """`scribe find`: where words or cells stand in a book."""
 
 from argparse import Namespace
-from collections.abc import Callable, Iterable
+from collections.abc import Callable, Iterable, Iterator
 from typing import TYPE_CHECKING
 
 from braildesk import Session
@@ -84,27 +84,33 @@ def answer(session: Session, arguments: Namespace, console: Console) -> None:
             console.show(*cell_lines(hit, *found, width, console.cells, where))
     else:
         form = alike if arguments.alike else composed
-        hits: Iterable[Hit] = find_words(session, text, form)
-        # while these are being found, nothing else can be asked
-        for hit in hits if pages is None else list(hits):
+        for hit, at in _of_words(pages, find_words(session, text, form)):
             is_alike = arguments.alike
             tally = tally.with_alike(hit, text) if is_alike else tally.with_hit(hit)
-            console.show(*word_lines(hit, width, _of_words(pages, hit)))
+            console.show(*word_lines(hit, width, at))
         if not (tally.count or arguments.alike):
             others = tallied(find_words(session, text, alike), text)
     summary = found_summary(text, tally, others, _OFFER)
     console.say(summary, *not_laid_out(pages))
 
 
-def _of_words(pages: "PageMap | None", hit: Hit) -> Callable[[int], str] | None:
-    """What is said of where a character stands on the pages, if this was asked for."""
+def _of_words(
+    pages: "PageMap | None", hits: Iterable[Hit]
+) -> Iterator[tuple[Hit, Callable[[int], str] | None]]:
+    """Hits with what is said of where each of their places is on the pages, if this was asked for."""
     if pages is None:
-        return None
+        yield from ((hit, None) for hit in hits)
+        return
     # imported here, since it is seldom asked for
     from scribe.words.pages import page_place
 
-    its, number, text = pages, hit.paragraph.id, hit.text
-    return lambda place: f", {page_place(its.of_character(number, place, text))}"
+    # while these are being found, nothing else can be asked
+    found = list(hits)
+    asked = [(hit.paragraph.id, at, hit.text) for hit in found for at, _ in hit.places]
+    said = map(page_place, pages.of_characters(asked))
+    for hit in found:
+        where = {start: f", {next(said)}" for start, _ in hit.places}
+        yield hit, where.__getitem__
 
 
 def _of_cells(pages: "PageMap | None", hit: Hit) -> Callable[[int], str]:

@@ -1,6 +1,8 @@
 """`scribe marks`: all marks of a book."""
 
 from argparse import Namespace
+from collections.abc import Iterator, Sequence
+from itertools import repeat
 from typing import TYPE_CHECKING
 
 from braildesk import Session
@@ -44,21 +46,22 @@ def answer(session: Session, arguments: Namespace, console: Console) -> None:
         session.print_of(number)  # which refuses a paragraph that isn't there
         marks = [each for each in marks if each.paragraph == number]
     pages = page_map(arguments, session)
-    for each in marks:
-        if not (arguments.open and each.mark.resolved):
-            page = "" if pages is None else _page(pages, each)
-            life = "struck" if each.is_struck else ""
-            console.show(mark_line(each.mark, each.text, each.paragraph, page, life))
+    shown = [each for each in marks if not (arguments.open and each.mark.resolved)]
+    where = repeat("") if pages is None else _pages(pages, shown)
+    for each, page in zip(shown, where):
+        life = "struck" if each.is_struck else ""
+        console.show(mark_line(each.mark, each.text, each.paragraph, page, life))
     whose = "The book" if number is None else f"Paragraph {number}"
     console.say(marks_summary(marks, whose), *not_laid_out(pages))
 
 
-def _page(pages: "PageMap", its: MarkOfBook) -> str:
-    """On which page and line the words of a mark begin."""
+def _pages(pages: "PageMap", marks: Sequence[MarkOfBook]) -> Iterator[str]:
+    """On which page and line the words of each mark begin."""
     # imported here, since it is seldom asked for
     from scribe.words.pages import page_place
 
-    return page_place(pages.of_character(its.paragraph, its.mark.start, its.text))
+    asked = [(its.paragraph, its.mark.start, its.text) for its in marks]
+    return map(page_place, pages.of_characters(asked))
 
 
 COMMAND = BookCommand("marks", EXAMPLE, add_words, lambda: answer, MORE, looks=True)
