@@ -696,6 +696,41 @@ def test_a_text_is_recognized_where_it_would_go(book: Path, place: str) -> None:
         )
 
 
+@pytest.mark.parametrize("words", [["--continue"], ["--lines", "--from", "3"]])
+def test_an_import_goes_on_where_the_rest_of_the_text_reads_as_the_part_that_is_there(
+    book: Path, words: list[str]
+) -> None:
+    (text := book.with_name("text.txt")).write_text("Row, row.\nGently.\n" * 2)
+    digest = hashlib.sha256(text.read_bytes()).hexdigest()
+    note = ImportNote(str(text), digest, True, 1, 4, "en", "end", 1, 0)
+    Drafts(book).begin_import(note)
+    with Session(book) as session:
+        assert session.last_version == 1
+        session.add_paragraph("end", "en", "Row, row.")
+        session.add_paragraph("end", "en", "Gently.")
+    assert again(book, *words) == Ran(
+        0, "2 paragraphs typed, numbers 3 to 4, by the table en.\n", ""
+    )
+    assert prints(book) == ["Row, row.", "Gently."] * 2
+    # all of it is there by now
+    assert again(book, "--lines", "--from", "3").said == (
+        "text.txt stands there in the book already, from paragraph 3 to paragraph 4.\n"
+        "--again types it once more. Nothing was typed.\n"
+    )
+
+
+def test_a_paragraph_whose_print_was_replaced_is_not_taken_for_a_shorter_text(
+    book: Path,
+) -> None:
+    put(book, "Twice a day the sea comes up.")
+    with Session(book) as session:
+        session.correct(1, 0, session.paragraphs()[0].length, "It sets")
+    assert put(book, "Once a day.") == Ran(
+        0, "1 paragraph typed, number 2, by the table en.\n", ""
+    )
+    assert prints(book) == ["It sets", "Once a day."]
+
+
 def test_a_text_that_is_struck_is_imported_again(book: Path) -> None:
     put(book, "One.")
     with Session(book) as session:

@@ -471,8 +471,9 @@ def _intake(
     )
     if rest and not is_its:
         check_goes_on(stored, before, rest)
-    if rest and job.way is not Way.AGAIN:
-        if numbers := standing(session, book, job.after, rest):
+    # where an import goes on, it was seen how much of the text is there
+    if rest and job.way not in (Way.AGAIN, Way.GO_ON):
+        if numbers := standing(session, book, job.after, rest, before[-1:]):
             raise StandsThere(job.text, numbers)
     table = table_for(session.tables(), anchor, job.table)
     found_faults = faults(rest, table, job.check, characters, beside)

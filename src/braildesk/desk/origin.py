@@ -35,27 +35,30 @@ def standing(
     book: Sequence[Paragraph],
     after: After,
     texts: Sequence[Passage],
+    front: Sequence[Passage] = (),
 ) -> tuple[int, ...]:
     """The paragraphs that are a text already, just before or after a place; none if none are.
 
-    Struck ones are passed over.
+    Before it they come after those of the front of the text, which may read as the rest does. Struck
+    ones are passed over.
     """
     place = 0
     if after == "end":
         place = len(book)
     elif after != "front":
         place = [each.id for each in book].index(after) + 1
-    before = [each.id for each in book[:place] if not each.struck][-len(texts) :]
+    whole = (*front, *texts)
+    before = [each.id for each in book[:place] if not each.struck][-len(whole) :]
     behind = [each.id for each in book[place:] if not each.struck][: len(texts)]
-    for numbers in (before, behind):
-        if len(numbers) == len(texts) and came_from(session, numbers[:1], texts):
-            if came_from(session, numbers, texts) == len(texts):
-                return tuple(numbers)
+    for numbers, wanted in ((before, whole), (behind, texts)):
+        if len(numbers) == len(wanted) and came_from(session, numbers[:1], wanted):
+            if came_from(session, numbers, wanted) == len(wanted):
+                return tuple(numbers[-len(texts) :])
     return ()
 
 
-def corrected(text: str, history: Iterable[Entry]) -> str:
-    """A print after the corrections and undos of a history."""
+def corrected(text: str, history: Iterable[Entry]) -> str | None:
+    """A print after the corrections and undos of a history; none if that is of a longer print."""
     before: list[str] = []
     for entry in history:
         if entry.kind is Kind.UNDO:
@@ -63,5 +66,7 @@ def corrected(text: str, history: Iterable[Entry]) -> str:
         else:
             before.append(text)
             stop = entry.start + entry.count
+            if stop > len(text):
+                return None
             text = text[: entry.start] + entry.text + text[stop:]
     return text
