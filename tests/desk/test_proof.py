@@ -207,13 +207,15 @@ def test_as_many_words_as_runs_of_cells_are_no_sign_that_these_are_theirs(
         session.add_paragraph("end", "own", "a b moon sun")
         session.add_paragraph("end", "own", "a \u00b7 b=c so")
         session.add_mark(1, 3, 1, "on moon")
+        session.add_mark(2, session.output_position(2, 5), 2, "on =")
     (page,) = pages_of(book, PageSize(40, 10))
     shown = [[(each.cells, each.text) for each in line.words] for line in page.lines]
     assert shown == [
         [("⠁⠃", "a b"), ("⠍⠕", "moon"), ("⠕⠝", ""), ("⠎⠥⠝", "sun")],
-        [("⠁", "a ·"), ("⠃", "b=c"), ("⠶⠉", ""), ("⠎⠕", "so")],
+        [("⠁", "a ·"), ("⠃", "b"), ("⠶⠉", "=c"), ("⠎⠕", "so")],
     ]
-    assert [each.text for each in page.lines[0].words if each.is_marked] == ["moon"]
+    marked = [each.text for each in words_of([page]) if each.is_marked]
+    assert marked == ["moon", "=c"]
 
 
 def test_words_made_into_cells_as_one_stand_each_under_its_own_cells(

@@ -213,16 +213,14 @@ def _in_turn(
 
 
 def _first_begun(session: Session, its: Character, cell: int) -> int:
-    """The place of the word that begins with a cell made as one with those before it.
+    """The first place of the print that stands under a cell, made as one with those before it.
 
-    Those before may have other words, or the front of the same one, which goes on with this cell.
+    That is of the next word if all of theirs stands under those before.
     """
     words, runs = made_as_one(session, its.paragraph, cell, its.text, its.braille)
     before = sum(run.start < cell for run in runs)
     if before < len(words):
-        place = words[before].start
-        if not place or its.text[place - 1].isspace():
-            return place
+        return words[before].start
     return _after_blank(its.text, words[-1].start if words else its.place)
 
 
