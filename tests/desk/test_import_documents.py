@@ -113,7 +113,7 @@ def test_headings_and_volumes_come_with_the_paragraphs(book: Path) -> None:
     again = put(book, "--volumes", "1")
     assert (again.status, again.said) == (
         2,
-        "moon.md stands there in the book already, from paragraph 1 to paragraph 8.\n"
+        "moon.md was typed there already, from paragraph 1 to paragraph 8.\n"
         "--again types it once more. Nothing was typed.\n",
     )
 
@@ -297,7 +297,7 @@ def test_a_text_that_another_imports_while_what_is_lost_is_read_is_typed_once(
     assert run_words(["import", str(book), "moon.md"], console) == 2
     assert others == [0]
     assert said.getvalue().endswith(
-        "moon.md stands there in the book already, from paragraph 1 to paragraph 8.\n"
+        "moon.md was typed there already, from paragraph 1 to paragraph 8.\n"
         "--again types it once more. Nothing was typed.\n"
     )
     assert parts(book) == PARTS

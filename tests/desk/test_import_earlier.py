@@ -673,7 +673,7 @@ def test_a_text_that_stands_in_the_book_is_typed_once_more_only_where_asked_for(
     assert put(book, TEXT) == Ran(
         2,
         "",
-        "text.txt stands there in the book already, from paragraph 1 to paragraph 3.\n"
+        "text.txt was typed there already, from paragraph 1 to paragraph 3.\n"
         "--again types it once more. Nothing was typed.\n",
     )
     assert version(book) == 5
@@ -692,7 +692,7 @@ def test_a_text_is_recognized_where_it_would_go(book: Path, place: str) -> None:
         assert found.status == 0
     else:
         assert found.said.startswith(
-            "text.txt stands there in the book already, from paragraph 2 to paragraph 3.\n"
+            "text.txt was typed there already, from paragraph 2 to paragraph 3.\n"
         )
 
 
@@ -714,7 +714,7 @@ def test_an_import_goes_on_where_the_rest_of_the_text_reads_as_the_part_that_is_
     assert prints(book) == ["Row, row.", "Gently."] * 2
     # all of it is there by now
     assert again(book, "--lines", "--from", "3").said == (
-        "text.txt stands there in the book already, from paragraph 3 to paragraph 4.\n"
+        "text.txt was typed there already, from paragraph 3 to paragraph 4.\n"
         "--again types it once more. Nothing was typed.\n"
     )
 
@@ -752,7 +752,7 @@ def test_the_desk_asks_before_it_imports_a_text_once_more(moon: Path, sit: Sit) 
     sat.press("escape")
     imported()
     assert sat.state.question and sat.state.question.sentence == (
-        f"{moon.parent}/text.txt stands there in the book already, from paragraph 4 to paragraph"
+        f"{moon.parent}/text.txt was typed there already, from paragraph 4 to paragraph"
         " 5. Shall it be typed once more?"
     )
     sat.press("n")

@@ -68,7 +68,7 @@ def test_u_takes_back_one_thing_after_the_other(moon: Path, sit: Sit) -> None:
     assert whole(sat) == before
     # nothing that a key did is left, so it is the newest correction from before
     sat.press("u")
-    assert sat.state.kept == "kept: paragraph 1 as it was before"
+    assert sat.state.kept == "kept: the print of paragraph 1 as it was before"
     assert sat.lines[8].startswith("The mon is far away.")
     assert sat.state.message == "Taken back: the newest correction of paragraph 1."
 

@@ -44,7 +44,7 @@ def test_the_book_is_opened_corrected_marked_undone_and_exported(
     terminal.keys("u")
     terminal.wait("kept: mark 2 resolved")
     terminal.keys("u")
-    terminal.wait("kept: paragraph 1 as it was before")
+    terminal.wait("kept: the print of paragraph 1 as it was before")
     terminal.keys("x", "pages", "enter")
     lines = terminal.wait("Export. Lines 1 to 1 of 1.")
     assert lines[2] == "pages/moon-1.brf: volume 1, 1 page, 52 cells with dots."

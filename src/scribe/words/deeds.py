@@ -258,7 +258,7 @@ def kept(command: Command[Any], answer: Any) -> str:
         case requests.Type():
             return f"kept: paragraph {answer.id}"
         case requests.Undo():
-            return f"kept: paragraph {command.paragraph} as it was before"
+            return f"kept: the print of paragraph {command.paragraph} as it was before"
         case requests.Correct():
             return f"kept: correction {answer.seq} of paragraph {command.paragraph}"
         case requests.Mark():

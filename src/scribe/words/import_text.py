@@ -414,7 +414,7 @@ def _stands_there(problem: StandsThere) -> str:
     where = f"as paragraph {first}"
     if last != first:
         where = f"from paragraph {first} to paragraph {last}"
-    return f"{problem.path} stands there in the book already, {where}."
+    return f"{problem.path} was typed there already, {where}."
 
 
 def _faulty(problem: Faulty) -> list[str]:
