@@ -3,6 +3,7 @@
 import os
 import shutil
 import signal
+import subprocess
 import sys
 from collections.abc import Callable, Iterator, Sequence
 from pathlib import Path
@@ -1260,3 +1261,28 @@ def test_a_window_that_is_told_to_end_says_that_its_file_is_gone_where_nothing_w
         f"Stopped by SIGTERM. The file of the book is no longer at “{moon}”: {what} Nothing was"
         f" changed in it here.{waits * bool(typed)}"
     )
+
+
+#: A signal as Qt first hands over an event, which is in the midst of what Qt does.
+_ENDED_AT_EVENT = """
+import os, signal, sys
+from scribe.window.held import Held
+
+def end(self, to, event):
+    os.kill(os.getpid(), signal.SIGTERM)
+    return False
+
+Held.eventFilter = end
+from scribe.cli import main
+from scribe.cli.endings import leave
+
+leave(main())
+"""
+
+
+def test_a_signal_ends_a_window_that_is_being_made(moon: Path) -> None:
+    words = ["window", str(moon)]
+    ended = subprocess.run(
+        [sys.executable, "-c", _ENDED_AT_EVENT, *words], capture_output=True
+    )
+    assert (ended.returncode, ended.stderr) == (-signal.SIGTERM, b"")

@@ -79,6 +79,20 @@ class Application:
         #: What became of what was typed and isn't in the book, once the window is closed.
         self.waits = ""
         qInstallMessageHandler(self._heard)
+        with _ended_by_signals():
+            self._begin_qt()
+            # a screen reader listens from the first question on, and hears of keys before they are held
+            held = Held()
+            its = path or followed(_chosen())
+            self._desk = Desk(its, by, wait, page_size, held)
+        actions = Actions(self._desk)
+        self._desk.acts = actions.by_name
+        self._offer = actions.offer
+        self._fault: BaseException | None = None
+        self._ended_by: signal.Signals | None = None
+        self._is_begun = True
+
+    def _begin_qt(self) -> None:
         self._qt = QApplication(sys.argv[:1])
         self._qt.setApplicationName("braildesk")
         self._qt.setDesktopFileName("braildesk-desktop")
@@ -86,15 +100,6 @@ class Application:
         self._dragged = Dragged(self._qt)
         self._contrast = Contrast(self._qt)
         self._contrast.follow()
-        self._fault: BaseException | None = None
-        self._ended_by: signal.Signals | None = None
-        # a screen reader listens from the first question on, and hears of keys before they are held
-        held = Held()
-        self._desk = Desk(path or followed(_chosen()), by, wait, page_size, held)
-        actions = Actions(self._desk)
-        self._desk.acts = actions.by_name
-        self._offer = actions.offer
-        self._is_begun = True
 
     @property
     def name(self) -> str:
@@ -272,6 +277,8 @@ def _ended_by_signals() -> Iterator[None]:
     heard = [each for each in before if before[each] is not signal.SIG_IGN]
     for number in heard:
         signal.signal(number, signal.SIG_DFL)
-    yield
-    for number in heard:
-        signal.signal(number, before[number])
+    try:
+        yield
+    finally:
+        for number in heard:
+            signal.signal(number, before[number])
