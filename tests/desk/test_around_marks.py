@@ -13,7 +13,7 @@ from hypothesis import strategies as st
 from braildesk import Mark
 from braildesk.desk.around_marks import corrections, prints_between
 from braildesk.desk.correction import Correction, smallest_correction
-from braildesk.text.sequences import composed
+from braildesk.text.sequences import composed, sequences
 from braildesk.text.spans import Span
 
 SEA = (
@@ -81,13 +81,13 @@ CASES: list[tuple[str, str, list[Mark], list[tuple[int, int, str]]]] = [
         [*on("a b c c", "b"), Mark(2, 6, 7, False, False, "?")],
         [(4, 2, ""), (0, 1, "X")],
     ),
-    # nor does any if that would touch another one, which one correction doesn't
+    # a word that begins as the next one does goes by itself, whether it has a mark or not
     ("the them", "them", on("the them", "them"), [(0, 4, "")]),
     (
         "the them",
         "them",
         [*on("the them", "them"), Mark(2, 0, 3, False, False, "?")],
-        [(3, 4, "")],
+        [(0, 4, "")],
     ),
     # also a part of a word, with what belongs to it
     ("a beach c", "X beach Y", on("a beach c", "eac"), [(8, 1, "Y"), (0, 1, "X")]),
@@ -230,6 +230,48 @@ def test_a_mark_stays_on_its_words_where_others_come_and_go_beside_them(
     assert kept(old, corrections(old, wanted[0], marks), marks) == wanted
 
 
+#: The same, where words of marks go or change: these are touched, and only these.
+GONE = [
+    # the word before ends in the same letters, or the one after begins so
+    (
+        "Non esitate ad unirvi alla [vostra associazione] locale [e sostenere] il progetto!",
+        "Non esitare ad unirvi alla [vostra associazione] locale [sostenere] il progetto!",
+        [False, True],
+    ),
+    (
+        "[lavora a] altri progetti ed [aiuta] la nostra associazione.",
+        "[lavora] altri progetti ed [aiuta] la nostra comunità.",
+        [True, False],
+    ),
+    (
+        "[Πηγαίνετε] στο [το μενού] και επιλέξτε",
+        "[Πηγαίνεται] στο [μενού] και επιλέξτε",
+        [True, True],
+    ),
+    # also where nothing else changes
+    ("[lavora a] altri progetti.", "[lavora] altri progetti.", [True]),
+    ("malsukcesa ekde [la] lasta", "malsukcesa ekde []lasta", [True]),
+    # a word becomes a part of another one
+    (
+        "Dine [egne] ord (f.[eks]. et navn) til.",
+        "Sine [egne] ord (f[eks]. et navn) til.",
+        [False, False],
+    ),
+]
+
+
+@pytest.mark.parametrize("before, after, touched", GONE)
+def test_a_word_that_goes_touches_its_own_mark_and_takes_no_other_beyond_its_words(
+    before: str, after: str, touched: list[bool]
+) -> None:
+    (old, marks), (new, wanted) = bracketed(before), bracketed(after)
+    now, found = kept(old, corrections(old, new, marks), marks)
+    assert now == new
+    assert found == [
+        replace(mark, touched=is_touched) for mark, is_touched in zip(wanted, touched)
+    ]
+
+
 def test_of_marked_words_that_change_places_those_stay_beside_which_most_stays() -> (
     None
 ):
@@ -306,26 +348,55 @@ def made(old: str, parts: Sequence[Correction], mark: Mark) -> tuple[str, Span |
     return old, its
 
 
+def is_in_word(text: str, place: int) -> bool:
+    """Whether a place of a print is between letters of one word."""
+    pieces = list(sequences(text[:place])), list(sequences(text[place:]))
+    return all(pieces) and pieces[0][-1][0].isalnum() and pieces[1][0][0].isalnum()
+
+
+def beyond(old: str, parts: Sequence[Correction], marks: Sequence[Mark]) -> int:
+    """How many marks corrections take beyond their words, or make a part of another word."""
+    count = 0
+    for mark in marks:
+        now, its = made(old, parts, mark)
+        if its is None:
+            count += any(
+                part.text
+                and mark.start < part.stop
+                and part.start < mark.stop
+                and (part.start < mark.start or mark.stop < part.stop)
+                for part in parts
+            )
+        elif mark.start < mark.stop:
+            count += any(
+                is_in_word(now, place) and not is_in_word(old, before)
+                for place, before in zip(its, (mark.start, mark.stop))
+            )
+    return count
+
+
 PIECES = ["a", "b", "ab", "q\u0307", "\u0307", " ", " ", "á", " a b", " ab ab"]
 TEXTS = st.lists(st.sampled_from(PIECES), max_size=14)
 PRINTS = TEXTS.map(lambda words: composed("".join(words)))
 
 
 @given(PRINTS, PRINTS, st.data())
-def test_they_give_the_new_print_and_touch_no_mark_that_one_correction_would_not(
+def test_they_touch_a_mark_that_one_correction_would_not_only_to_keep_more_on_words(
     old: str, new: str, data: st.DataObject
 ) -> None:
     places = st.integers(0, len(old))
     spans = data.draw(st.lists(st.tuples(places, places), max_size=3))
     marks = [Mark(1, min(span), max(span), False, False, "") for span in spans]
     parts, least = corrections(old, new, marks), smallest_correction(old, new)
+    alone = [least] if least else []
+    kept_more = beyond(old, parts, marks) < beyond(old, alone, marks)
     for mark in marks:
         now, its = made(old, parts, mark)
         assert now == new
         if its is not None and mark.start < mark.stop:
             assert now[its.start : its.stop] == old[mark.start : mark.stop]
         if least and made(old, [least], mark)[1] is not None:
-            assert its is not None
+            assert its is not None or kept_more
     assert [*prints_between(old, parts), new][-1] == new
 
 

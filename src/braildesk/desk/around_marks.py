@@ -7,6 +7,7 @@ several places is parted around the words of marks: these stay as they are, or a
 from bisect import bisect_left, bisect_right
 from collections.abc import Callable, Iterable, Iterator, Mapping, Sequence, Set
 from dataclasses import dataclass, replace
+from functools import partial
 from itertools import accumulate, chain, groupby, pairwise
 
 from braildesk import Mark
@@ -85,11 +86,13 @@ def corrections(old: str, new: str, marks: Iterable[Mark]) -> tuple[Correction, 
     edit = _edit(old, new, least, spans) if spans else None
     if edit is None or not edit.near:
         return (least,)
-    for found in (_parted(old, new, _stays(edit)), (least,)):
-        parts = _beside_words(edit, found)
-        if _is_right(edit, parts):
-            return parts
-    return (least,)
+    found = _parted(old, new, _stays(edit))
+    parts = _beside_words(edit, found)
+    if _is_right(edit, parts) and not _touches_others(edit, parts):
+        return parts
+    ways = _beside_words(edit, _fewer(edit, found)), _beside_words(edit, (least,))
+    right = [way for way in ways if _is_right(edit, way)]
+    return min((*right, (least,)), key=partial(_harm, edit))
 
 
 def prints_between(old: str, parts: Sequence[Correction]) -> list[str]:
@@ -119,7 +122,7 @@ def _print(text: str) -> _Print:
 
 
 def _is_right(edit: _Edit, parts: Sequence[Correction]) -> bool:
-    """Whether corrections make just the new print, and touch no mark that one alone doesn't."""
+    """Whether corrections make just the new print."""
     text, prints = edit.old.text, prints_between(edit.old.text, parts)
     for part in parts:
         text = part.applied(text)
@@ -127,8 +130,62 @@ def _is_right(edit: _Edit, parts: Sequence[Correction]) -> bool:
         if not {part.start, part.start + len(part.text)} <= set(seams(text)):
             return False
     is_long = any(len(each) > limits.PRINT_CHARACTERS for each in prints)
-    is_more = any(_is_touched(its, part) for its in edit.others for part in parts)
-    return text == edit.new.text and not is_long and not is_more
+    return text == edit.new.text and not is_long
+
+
+def _touches_others(edit: _Edit, parts: Sequence[Correction]) -> bool:
+    """Whether corrections touch a mark that the smallest one alone doesn't."""
+    return any(_is_touched(its, part) for its in edit.others for part in parts)
+
+
+def _harm(edit: _Edit, parts: Sequence[Correction]) -> tuple[int, int]:
+    """How many marks corrections take beyond their words or make a part of others, and touch."""
+    ordered = parts[::-1]
+    by = accumulate((len(part.text) - part.count for part in ordered), initial=0)
+    places = list(zip(ordered, by))
+    beyond = touched = 0
+    for its in {*edit.near, *edit.others}:
+        first = bisect_left(ordered, its.start, key=lambda part: part.stop)
+        end = bisect_right(ordered, its.stop, key=lambda part: part.start)
+        on = [part for part in ordered[first:end] if _is_touched(its, part)]
+        is_grown = any(
+            part.text and (part.start < its.start or its.stop < part.stop)
+            for part in on
+        )
+        beyond += is_grown or any(
+            _is_joined(edit, its, *each) for each in places[first:end]
+        )
+        touched += bool(on)
+    return beyond, touched
+
+
+def _fewer(edit: _Edit, parts: Sequence[Correction]) -> tuple[Correction, ...]:
+    """The same corrections, two beside each other made one where that is smaller than both together.
+
+    Only such are made one of which either touches a mark that the smallest correction alone doesn't.
+    """
+    found = list[Correction]()
+    for part in parts:
+        both = _both(edit, found[-1], part) if found else None
+        if both and _touches_others(edit, (found[-1], part)):
+            found[-1] = both
+        else:
+            found.append(part)
+    return tuple(found)
+
+
+def _both(edit: _Edit, after: Correction, before: Correction) -> Correction | None:
+    """The correction that does what two do, if it is smaller than both together."""
+    between = edit.old.text[before.stop : after.start]
+    whole = edit.old.text[before.start : after.stop]
+    both = smallest_correction(whole, before.text + between + after.text)
+    if both is None or _size(both) >= _size(before) + _size(after):
+        return None
+    return replace(both, start=before.start + both.start)
+
+
+def _size(part: Correction) -> int:
+    return part.count + len(part.text)
 
 
 def _is_touched(its: Span, by: Correction) -> bool:
@@ -202,7 +259,7 @@ def _moved(edit: _Edit, part: Correction, further: int, within: Span) -> Correct
         is_beside = {by.start, by.stop} <= edit.old.edges
         is_there = {start, start + len(by.text)} <= edit.new.edges
         far = abs(by.start - part.start)
-        return others, joined, len(touched), grown, not (is_beside and is_there), far
+        return joined, others, len(touched), grown, not (is_beside and is_there), far
 
     if not any(harm(part)[:4]):
         return part
