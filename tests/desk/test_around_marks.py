@@ -257,6 +257,11 @@ GONE = [
         "Sine [egne] ord (f[eks]. et navn) til.",
         [False, False],
     ),
+    (
+        "[Use] the version 1.4.[0] with [these] tools.",
+        "[Use] the version 1.4[0] among [these] tools.",
+        [False, False, False],
+    ),
 ]
 
 

@@ -69,7 +69,8 @@ class _Words:
     before: list[Span]
     #: Those that stay.
     same: list[_Pair]
-    #: Those in place of which as many others come, as far as they stand together.
+    #: Those in place of which as many others come, as far as they stand together; or all between
+    #: blanks, if as many come and one changes only its signs.
     changed: list[list[_Pair]]
 
 
@@ -390,12 +391,43 @@ def _words_of(edit: _Edit) -> _Words:
             break
     words = _Words(before, [], [])
     for one, two, is_same in found:
-        pairs = list(zip(before[one.start : one.stop], after[two.start : two.stop]))
+        its, there = before[one.start : one.stop], after[two.start : two.stop]
         if is_same:
-            words.same.extend(pairs)
-        elif one.stop - one.start == two.stop - two.start:
-            words.changed.append(pairs)
+            words.same.extend(zip(its, there))
+            continue
+        pairs = list(zip(its, there))
+        if len(its) != len(there):
+            pairs = _wholes(edit, its, there)
+        words.changed.append(pairs)
     return words
+
+
+def _wholes(edit: _Edit, its: Sequence[Span], there: Sequence[Span]) -> list[_Pair]:
+    """What stands between blanks and what comes in place of it, if of one only the signs change."""
+    before, after = _with_signs(its), _with_signs(there)
+    if len(before) != len(after):
+        return []
+    pairs = list(zip(before, after))
+    is_same = any(
+        "" != _letters(edit.old.text, one) == _letters(edit.new.text, two)
+        for one, two in pairs
+    )
+    return pairs if is_same else []
+
+
+def _letters(text: str, its: Span) -> str:
+    return "".join(filter(str.isalnum, text[its.start : its.stop]))
+
+
+def _with_signs(words: Iterable[Span]) -> list[Span]:
+    """Words made one with those at whose ends they stand."""
+    wholes = list[Span]()
+    for word in words:
+        if wholes and wholes[-1].stop == word.start:
+            wholes[-1] = Span(wholes[-1].start, word.stop)
+        else:
+            wholes.append(word)
+    return wholes
 
 
 def _both_words(
