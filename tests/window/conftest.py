@@ -69,6 +69,9 @@ def faults(monkeypatch: pytest.MonkeyPatch) -> Iterator[None]:
     faults = Faults()
     monkeypatch.setattr(sys, "excepthook", faults.note)
     yield
+    # a window that is taken away while it has the keyboard is told so when Python has nothing of it any more
+    for window in QApplication.topLevelWidgets():
+        window.hide()
     faults.is_over = True
     if faults.found:
         raise faults.found[0]
