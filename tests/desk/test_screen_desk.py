@@ -123,7 +123,8 @@ def test_a_correction_is_kept_with_its_name_and_then_undone(
     assert "Mark 1, open, touched, on “Moon”: spelled so?" in sat.lines
     sat.press("u")
     assert (
-        "version 9, table en, last kept: the print of paragraph 1 as it was before" in sat.lines[0]
+        "version 9, table en, last kept: the print of paragraph 1 as it was before"
+        in sat.lines[0]
     )
     assert sat.lines[8] == "The moon is far away."
     sat.press("h")
