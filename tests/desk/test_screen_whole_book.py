@@ -55,11 +55,11 @@ def test_each_place_is_shown_before_and_after_and_nothing_is_changed_yet(
     sat = sit(tides)
     sat.press("c")
     assert sat.lines[-1].rstrip() == "Words to change:"
-    assert sat.state.heard == "Each place is shown before it is changed."
+    assert sat.state.heard == "Each place is shown as it is asked about."
     sat.press(*"tide", "enter")
     assert sat.lines[-1].rstrip() == "In their place:"
     assert sat.state.heard == (
-        "Enter alone takes “tide” out. Each place is shown before it is changed."
+        "Enter alone takes “tide” out. Each place is shown as it is asked about."
     )
     version = sat.state.version
     sat.press(*"flood", "enter")

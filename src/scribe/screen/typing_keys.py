@@ -33,7 +33,7 @@ from scribe.words.typed import InvalidInput, given_path, typed_path
 _NOTHING_WHILE_TYPING = (
     "That key does nothing here. Enter ends what is typed, Escape gives it up."
 )
-OF_OLD = "Each place is shown before it is changed."
+OF_OLD = "Each place is shown as it is asked about."
 _AS_IT_WAS = "Given up. The book is as it was."
 _NOT_ADDED = "This paragraph was empty, and wasn't added."
 _MOST = limits.PRINT_CHARACTERS

@@ -84,7 +84,7 @@ def add_words(parser: Parser) -> None:
     how.add_argument(
         "--ask",
         action="store_true",
-        help="show each place and ask before it is changed",
+        help="ask about each place before it is changed",
     )
     how.add_argument(
         "--dry-run", action="store_true", help="show each place, and change nothing"
