@@ -31,10 +31,10 @@ Ready Format. The folder is made if it isn't there. Nothing is written until all
 volumes were read from one version of the book. A volume is written beside an older file
 and takes its name only when it is whole. A volume that is refused leaves the older file,
 and so does a full disk. New files are your own, and have the mode of the book for others,
-and its group. If a volume replaces an older file, it is said which pages differ;
---only-changed also writes these alone, beside it, as moon-1-changed.brf. --page 6-10
-writes pages of a volume alone, as moon-1-pages-6-10.brf, and leaves the files of the
-volumes as they are."""
+as far as the umask allows, and its group. If a volume replaces an older file, it is said
+which pages differ; --only-changed also writes these alone, beside it, as
+moon-1-changed.brf. --page 6-10 writes pages of a volume alone, as moon-1-pages-6-10.brf,
+and leaves the files of the volumes as they are."""
 EXAMPLE = """\
 scribe export moon.braildesk pages --width 30 --lines 20
 scribe export moon.braildesk pages --width 30 --lines 20 --only-changed

@@ -14,8 +14,8 @@ from scribe.words.paragraph import mark_line, next_summary
 MORE = """\
 It is the first open mark of the book, or with MARK the next one after that mark, in the
 order of the book; after the last one comes the first again. At the prompt of scribe talk
-MARK is the mark that was shown last, if none is named. Its note is shown again after each
-correction of its paragraph until it is resolved, and change and resolve mean that
+MARK is the mark that was shown last, if none is named. Until it is resolved, its note is
+shown again after each correction of its paragraph, and change and resolve mean that
 paragraph and that mark if they name none."""
 EXAMPLE = "scribe next moon.braildesk"
 
