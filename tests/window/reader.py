@@ -5,7 +5,7 @@ import subprocess
 import sys
 import time
 from collections.abc import Callable, Iterator, Sequence
-from contextlib import contextmanager
+from contextlib import contextmanager, suppress
 from pathlib import Path
 from typing import Any, TypeVar
 
@@ -407,11 +407,22 @@ def hearing(kinds: Sequence[str] = _TOLD) -> Iterator[list[tuple[str, str]]]:
     listener = Atspi.EventListener.new(take)
     for kind in kinds:
         listener.register(kind)
+    _wait_until_known()
     try:
         yield found
     finally:
         for kind in kinds:
             listener.deregister(kind)
+
+
+def _wait_until_known() -> None:
+    """Waits until the windows of others know what is heard: each answers after it was told."""
+    desktop = Atspi.get_desktop(0)
+    for number in range(desktop.get_child_count()):
+        its = desktop.get_child_at_index(number)
+        if its and its.get_process_id() != os.getpid():
+            with suppress(GLib.Error):
+                its.get_toolkit_name()
 
 
 def _generate(code: int, kind: Part) -> None:
