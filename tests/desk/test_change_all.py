@@ -155,6 +155,7 @@ def test_ss_is_no_other_capital_of_another_letter(empty_book: Path) -> None:
         ("MOON", "sun", "SUN"),
         ("mOON", "Sun", "sun"),
         ("MOon", "sun", "Sun"),
+        ("mOON", "SUN", "SUN"),
         ("Moon", "", ""),
     ],
 )
@@ -635,7 +636,8 @@ def test_where_it_is_not_seen_what_was_changed_each_place_is_to_be_looked_at(
         f"{said} already.\n{unseen} --ask shows each place. Nothing was changed.\n",
     )
     ran = changed(tides, "tide", "tides", "--dry-run")
-    assert ran.said.splitlines()[:2] == [f"{said} already.", unseen]
+    alone = f"{unseen} Only --ask changes what is left."
+    assert ran.said.splitlines()[:2] == [f"{said} already.", alone]
     assert changed(tides, "tide", "tides", "--ask", given="no\nall\n").status == 0
     assert prints(tides)[:3] == ["The tides", "a tides or tides", "tidess of tides"]
     assert Drafts(tides).changes() == ()

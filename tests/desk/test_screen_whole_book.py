@@ -353,7 +353,7 @@ def test_words_that_stand_nowhere_are_said_and_those_with_other_capitals_are_sho
     assert sat.state.pages is None
     assert sat.state.message == "“ebb” isn't in the book. Nothing was changed."
     asked(sat, "THE END", "the rest")
-    assert sat.state.message == ("These have other capitals, which the new words take.")
+    assert sat.state.message == ("These have other capitals. After shows what comes.")
     asked_for = sat.state.pages
     assert asked_for and asked_for.lines[1] == "After: [The rest]"
     sat.press("escape")

@@ -179,7 +179,7 @@ ASKED: dict[str, Ask] = {
     ),
     "words": lambda over: dialogs.fields(
         *(over, "Change", ("&Words:", f"What comes in place of {QUOTED}:"), ("", "")),
-        ("Whatever the &capitals, which are kept",),
+        ("Whatever the &capitals",),
     ),
     "a folder": lambda over: dialogs.folder(
         over, "Export", f"The folder to which the volumes of {QUOTED} go:", "pages"

@@ -83,12 +83,22 @@ def _waiting(desk: Desk) -> Draft | None:
     return Drafts(desk.path).waiting()
 
 
+def test_of_a_note_that_is_given_up_it_is_said_what_was_kept_before(
+    desk: Desk, noted: Note
+) -> None:
+    desk.window.print.insertPlainText("O ")
+    noted("who?", None)
+    desk.act("mark")
+    said = "Given up. No mark was put. Ctrl+B brings it back."
+    assert desk.window.message.text == f"Kept: correction 1 of paragraph 1. {said}"
+
+
 def test_a_note_that_is_given_up_is_brought_back(
     desk: Desk, noted: Note, monkeypatch: pytest.MonkeyPatch
 ) -> None:
     noted("who?", None)
     desk.act("mark")
-    said = "Given up. The book is as it was. Ctrl+B brings it back."
+    said = "Given up. No mark was put. Ctrl+B brings it back."
     assert desk.window.message.text == said
     assert (_given_up(desk.path), _waiting(desk)) == (["who?"], None)
     name = "1. A note for a mark in paragraph 1: “who?”"

@@ -23,7 +23,7 @@ class Replacement:
     new: str
     #: Whether they have to stand there as whole words.
     is_of_words: bool = False
-    #: Whether they may have other capitals there, which the new words take then.
+    #: Whether they may have other capitals there, of which the new words take the first, or all.
     is_of_any_case: bool = False
     ranges: tuple[ParagraphRange, ...] = (ParagraphRange(),)
     by: str | None = None
@@ -201,11 +201,14 @@ def _is_of_word(character: str) -> bool:
 
 
 def _with_capitals(new: str, gone: str) -> str:
-    """New words with the capitals of those that they replace: all of them, the first one, or none."""
+    """New words with the capitals of those that they replace: all of them, the first one, or none.
+
+    Those in capitals stay so.
+    """
     if gone.isupper() and sum(map(str.isalpha, gone)) > 1:
         return new.upper()
     if gone[:1].isupper():
         return new[:1].upper() + new[1:]
-    if gone[:1].islower():
+    if gone[:1].islower() and not new[1:2].isupper():
         return new[:1].lower() + new[1:]
     return new

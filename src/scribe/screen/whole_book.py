@@ -65,7 +65,7 @@ _MANY = 250_000
 # so many commands are done in a moment
 _FEW = 20
 _FURTHER = "The change that was cut short goes on."
-_OF_CAPITALS = "These have other capitals, which the new words take."
+_OF_CAPITALS = "These have other capitals. After shows what comes."
 _NOT_A_NUMBER = "That is no number of pages, such as 80."
 _OF_PAGES = (
     "Volumes begin at headings where they can, and none has more pages than this."

@@ -39,7 +39,7 @@ from scribe.words.status import Stop
 
 _TITLE = "Change everywhere"
 _ASKED = ("&Words to change:", "What comes in their &place; nothing takes them out:")
-_CHECKS = ("Only wh&ole words", "Whatever the &capitals, which are kept")
+_CHECKS = ("Only wh&ole words", "Whatever the &capitals")
 _NOTHING = "Nothing was changed."
 _OF_ALL = ("Change &all", "Ask at each &place", "&Cancel")
 _OF_A_PLACE = ("&Change", "&Leave", "Change all the &rest", "&Stop here")

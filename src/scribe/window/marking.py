@@ -121,7 +121,7 @@ class Marking:
         """The note that was typed is given up, unless the window is ended, where it waits."""
         desk, note = self.desk, self.desk.beside
         if note is not None and not desk.is_ending:
-            desk.say(f"Given up. The book is as it was. {desk.put_by(note)}")
+            desk.say(f"Given up. No mark was put. {desk.put_by(note)}")
 
     def next_mark(self) -> None:
         """Goes to the next open mark."""

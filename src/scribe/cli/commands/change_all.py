@@ -42,10 +42,10 @@ from scribe.words.typed import InvalidInput, text, words
 MORE = """\
 Each place is a correction of its own, of the fewest characters, and is shown as it is now
 and as it was. A mark between two changes of one place is touched, and covers both then.
-With --ask each is shown before, and changed or left as you answer. --words leaves alone
-what is part of a longer word. With --case words with other capitals are changed too, and
-the new words take these: moon, Moon and MOON become sun, Sun and SUN. Places that the
-book refuses stay as they are, and are listed at the end with the reason."""
+With --ask it is asked about each, until you answer all. --words leaves alone what is part
+of a longer word. With --case words with other capitals are changed too: moon, Moon and
+MOON become sun, Sun and SUN. Places that the book refuses stay as they are, and are
+listed at the end with the reason."""
 EXAMPLE = """\
 scribe change-all moon.braildesk moon sun --words --dry-run
 scribe change-all moon.braildesk moon sun --case --in 1-2 --by anna"""
@@ -77,7 +77,7 @@ def add_words(parser: Parser) -> None:
     add_ranges(parser, "--in")
     for word, does in (
         ("--words", "only whole words"),
-        ("--case", "whatever the capitals, which are kept"),
+        ("--case", "whatever the capitals: Moon becomes Sun"),
     ):
         parser.add_argument(word, action="store_true", help=does)
     how = parser.add_mutually_exclusive_group()
@@ -127,6 +127,8 @@ def answer(session: Session, arguments: Namespace, console: Console) -> Status:
         unseen = not_seen(further.unseen(found))
         if unseen and not (arguments.ask or arguments.dry_run):
             raise Stop(f"{unseen} --ask shows each place. Nothing was changed.")
+        if unseen and arguments.dry_run:
+            unseen = f"{unseen} Only --ask changes what is left."
         console.say(*filter(None, [unseen]))
         if arguments.dry_run:
             return _shown(wanted, found, console)
