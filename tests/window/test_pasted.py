@@ -75,7 +75,7 @@ def test_an_address_that_is_pasted_is_typed(desk: Desk, given: Answers) -> None:
 def test_what_has_no_text_is_said_not_to_be_pasted(desk: Desk) -> None:
     pasted(desk, ImageData=QImage(3, 3, QImage.Format.Format_RGB32))
     assert desk.window.message.text == (
-        "What was copied has no text, so nothing was typed."
+        "There is no text to put in, so nothing was typed."
     )
     assert not desk.is_typed()
 

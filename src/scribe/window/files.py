@@ -50,7 +50,7 @@ _ASKED = "The &folder to which the volumes go, which is made if it isn't there:"
 _AGAIN = "Import it again to have the rest typed too."
 _PAGES = "pages"
 #: What is said where something was pasted that is neither text nor files.
-NO_TEXT = "What was copied has no text, so nothing was typed."
+NO_TEXT = "There is no text to put in, so nothing was typed."
 
 
 @dataclass(frozen=True)
