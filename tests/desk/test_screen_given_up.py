@@ -445,6 +445,26 @@ def test_the_question_says_how_many_lines_wait(moon: Path, sit: Sit) -> None:
     assert "It has 25 characters, 3 lines. Shall it be typed" in asked(sat)
 
 
+def test_lines_that_are_left_for_later_wait_without_those_of_the_book(
+    moon: Path, sit: Sit
+) -> None:
+    with Session(moon) as session:
+        Drafts(moon).save(
+            Draft(
+                *(Aim.AFTER, 2, "en", "", "One.\nTwo.\nThree."),
+                version=session.last_version,
+            )
+        )
+        session.ask(requests.Type(2, "en", "One."))
+    sat = sit(moon)
+    assert "“Two. Three.”" in asked(sat)
+    sat.press("l", "U")
+    assert "“Two. Three.”" in asked(sat)
+    sat.press("l")
+    sat.desk.close()
+    assert "“Two. Three.”" in asked(sit(moon))
+
+
 def test_a_text_that_is_left_for_later_waits_through_other_work(
     moon: Path, sit: Sit
 ) -> None:

@@ -646,6 +646,24 @@ def test_the_caret_goes_to_the_words_of_a_note_that_is_brought_back(
     assert desk.window.here.text.endswith("Mark 2, open, on “sea”: who?")
 
 
+def test_lines_that_are_left_for_later_wait_without_those_of_the_book(
+    desk: Desk, given: Answers, monkeypatch: pytest.MonkeyPatch
+) -> None:
+    names: list[str] = []
+    monkeypatch.setattr(dialogs, "one_of", lambda *words: names.extend(words[3]))
+    lines = replace(LINES, version=desk.contents.version)
+    desk.do(requests.Type(2, "en", "One."))
+    Drafts(desk.path).save(lines)
+    given["choices"] = [2]
+    desk.acting(Actions(desk).offer)
+    assert "“Two. Three.”" in given["said"][0]
+    desk.act("bring_back")
+    assert len(names) == 1 and names[0].endswith(": “Two. Three.”")
+    desk.wait_for_draft()
+    waiting = Drafts(desk.path).waiting()
+    assert waiting is not None and waiting.text == "Two.\nThree."
+
+
 def test_a_text_that_waits_is_offered_also_where_one_beside_the_book_is_none(
     desk: Desk, given: Answers
 ) -> None:

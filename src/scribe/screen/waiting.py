@@ -1,10 +1,12 @@
 """Texts that were typed and aren't in the book: they are set aside, and asked about again."""
 
 from collections.abc import Callable
+from contextlib import suppress
 from dataclasses import replace
 
 from braildesk import Session
 from braildesk.desk.draft import Aim, Draft
+from braildesk.desk.drafts import NotKept
 from braildesk.desk.kept_lines import lines_kept, lines_left, mark_kept
 from braildesk.desk.places import cells_of, words_of
 from braildesk.text.characters import visible
@@ -74,6 +76,10 @@ def with_text(
             return _put_by(unsent, state, action)
     offered = state.question.saved if state.question else None
     said = _LATER if offered and unsent.waits(offered) else _NOT_LATER
+    if offered and unsent.waiting != offered and said == _LATER:
+        # the lines that the book has don't wait any more
+        with suppress(NotKept):
+            unsent.keep(offered)
     unsent.put_off()
     return replace(state, question=None, anchor=None).saying(said)
 

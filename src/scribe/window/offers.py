@@ -172,6 +172,12 @@ class Offers:
         elif answer == 1:
             desk.say(f"Given up. The book is as it was. {desk.put_by(waiting)}")
         else:
+            if waiting != offered:
+                # the lines that the book has don't wait any more
+                desk.unsent.take_on(offered)
+                desk.keep_draft(waiting)
+                desk.wait_for_draft()
+                desk.unsent.put_off()
             desk.say(
                 "The text waits. Ctrl+B asks about it, and so does an opening at which no newer"
                 " one waits."
