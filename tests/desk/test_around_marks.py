@@ -56,13 +56,6 @@ CASES: list[tuple[str, str, list[Mark], list[tuple[int, int, str]]]] = [
         [(8, 1, "Y"), (3, 1, "o"), (0, 1, "X")],
     ),
     ("the sea", "an ocean", on("the sea", "sea"), [(4, 3, "ocean"), (0, 3, "an")]),
-    # what joins letters or parts them is of their word
-    (
-        "a\u200cb cd",
-        "f ce",
-        on("a\u200cb cd", "cd"),
-        [(5, 1, "e"), (0, 3, "f")],
-    ),
     (
         "The sea.",
         "An ice!",

@@ -636,7 +636,7 @@ def test_where_it_is_not_seen_what_was_changed_each_place_is_to_be_looked_at(
         f"{said} already.\n{unseen} --ask shows each place. Nothing was changed.\n",
     )
     ran = changed(tides, "tide", "tides", "--dry-run")
-    alone = f"{unseen} Only --ask changes what is left."
+    alone = f"{unseen} --ask shows each place."
     assert ran.said.splitlines()[:2] == [f"{said} already.", alone]
     assert changed(tides, "tide", "tides", "--ask", given="no\nall\n").status == 0
     assert prints(tides)[:3] == ["The tides", "a tides or tides", "tidess of tides"]

@@ -32,8 +32,6 @@ _ALONE = (
     range(0xF900, 0xFB00),
     range(0x20000, 0x40000),
 )
-#: What joins letters of a word, or parts them, as in Persian.
-_JOINERS = "\u200c\u200d"
 #: The last character before those.
 _MOST_WITH_BLANKS = "\u0dff"
 #: A stretch of a print that stays, and how much further on it stands in the other print.
@@ -483,7 +481,7 @@ def _is_of_letters(piece: str) -> bool:
     is_alone = letter > _MOST_WITH_BLANKS and any(
         ord(letter) in each for each in _ALONE
     )
-    return (letter.isalnum() or letter in _JOINERS) and not is_alone
+    return letter.isalnum() and not is_alone
 
 
 def _is_no_blank(piece: str) -> bool:

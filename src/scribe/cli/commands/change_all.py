@@ -128,7 +128,7 @@ def answer(session: Session, arguments: Namespace, console: Console) -> Status:
         if unseen and not (arguments.ask or arguments.dry_run):
             raise Stop(f"{unseen} --ask shows each place. Nothing was changed.")
         if unseen and arguments.dry_run:
-            unseen = f"{unseen} Only --ask changes what is left."
+            unseen = f"{unseen} --ask shows each place."
         console.say(*filter(None, [unseen]))
         if arguments.dry_run:
             return _shown(wanted, found, console)

@@ -30,7 +30,7 @@ line is a paragraph. The text is UTF-8. Before anything is typed all of it is ju
 character that the table lacks and each paragraph that is too long is shown with its line
 and column. If the typing is cut short, also by a terminal that is closed, --continue types
 the rest; --from goes on at a line of the text, or at a paragraph of a document. A text that
-stands there already, or of which an import of yours was cut short, isn't typed once more
+was typed there already, or of which an import of yours was cut short, isn't typed once more
 without --again.
 DOCX, ODT, EPUB, HTML and Markdown are read by pandoc, and RTF and DOC by LibreOffice, if
 these are installed; which of them it is, is found. Headings become headings. What a book
@@ -121,7 +121,7 @@ def _add_ways(parser: ArgumentParser) -> None:
     ways = parser.add_mutually_exclusive_group()
     for option, way, does in (
         ("--continue", Way.GO_ON, "type the rest of an import that was cut short"),
-        ("--again", Way.AGAIN, "type what stands there already once more"),
+        ("--again", Way.AGAIN, "type once more what was typed there already"),
         ("--leave", Way.LEAVE, "leave out the rest of an import that was cut short"),
     ):
         ways.add_argument(
