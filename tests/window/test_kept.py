@@ -339,6 +339,25 @@ def test_what_is_typed_where_a_book_is_not_shown_closes_nothing_and_is_set_aside
         assert window.end() == 2
     if is_kept:
         assert [each.text for each in Drafts(moon).given_up()] == ["could be"]
+        assert Drafts(moon).unread() is None
+
+
+@pytest.mark.parametrize("end", [signal.SIGTERM, signal.SIGKILL])
+def test_what_is_typed_where_a_book_is_not_shown_is_there_after_a_signal(
+    moon: Path, at: Open, end: signal.Signals
+) -> None:
+    with Session(moon):
+        window = at(moon, is_waited_for=False)
+        window.dialog(moon.name)
+        window.type(" could be")
+        window.until("it is kept", lambda: _unread(moon) == "could be")
+        window.program.send_signal(end)
+        assert window.end() == -end
+    again = at(moon)
+    where = "What was typed where no text was asked for is set aside"
+    again.says(f"{where}: “could be”. Ctrl+B brings it back.")
+    assert [each.text for each in Drafts(moon).given_up()] == ["could be"]
+    assert Drafts(moon).unread() is None
 
 
 def test_a_file_that_is_no_book_is_not_shown(tmp_path: Path, at: Open) -> None:

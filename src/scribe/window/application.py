@@ -153,11 +153,11 @@ class Application:
 
         A text that is typed on there is given up; if it can't be kept it is shown in the end.
         """
-        desk, typed = self._desk, [""]
-        with _ended_by_signals(), taking_at_sentence(typed.append):
+        desk = self._desk
+        with _ended_by_signals(), taking_at_sentence(desk.keep_unopened):
             title = title_of(desk.path.name)
             choice(desk.window, title, visible(sentence), ["&Close"])
-        if typed[-1] and (unkept := desk.put_by_unopened(typed[-1])):
+        if unkept := desk.put_by_unopened():
             self.tell(unkept)
 
     def run(self) -> None:

@@ -1204,11 +1204,23 @@ class Desk:
         self.have_wait(None)
         return fault or "Ctrl+B brings it back."
 
-    def put_by_unopened(self, text: str) -> str:
+    def keep_unopened(self, text: str) -> None:
+        """Keeps a text that is typed where the book can't be opened, until that is given up; or nothing."""
+        its = Draft(Aim.AFTER, None, None, "", text)
+        self._at_offer = Unread("", its, is_at_offer=True) if text else None
+        with suppress(NotKept):
+            self.unsent.keep_unread(self._at_offer)
+
+    def put_by_unopened(self) -> str:
         """Gives up a text that was typed where the book can't be opened, and says so if it isn't kept."""
-        self.unsent.put_by(Draft(Aim.AFTER, None, None, "", text))
-        unkept = " ".join(self.unsent.unkept).replace("\n", " ")
-        return f"{_UNKEPT} {unkept}" if unkept else ""
+        typed, self._at_offer = self._at_offer, None
+        if typed is None:
+            return ""
+        self.unsent.put_by(typed.rest)
+        if unkept := " ".join(self.unsent.unkept).replace("\n", " "):
+            return f"{_UNKEPT} {unkept}"
+        self.keep_unopened("")
+        return ""
 
     def is_waiting(self) -> bool:
         """Whether what is typed is kept as what waits, if anything is typed."""
