@@ -1286,3 +1286,33 @@ def test_a_signal_ends_a_window_that_is_being_made(moon: Path) -> None:
         [sys.executable, "-c", _ENDED_AT_EVENT, *words], capture_output=True
     )
     assert (ended.returncode, ended.stderr) == (-signal.SIGTERM, b"")
+
+
+#: A signal at each pause after which it is looked again whether a book is in use still.
+_ENDED_AT_PAUSE = """
+import os, signal, time
+from types import SimpleNamespace
+from braildesk import opening
+
+def sleep(seconds):
+    os.kill(os.getpid(), signal.SIGTERM)
+    time.sleep(seconds)
+
+opening.time = SimpleNamespace(monotonic=time.monotonic, sleep=sleep)
+from scribe.cli import main
+from scribe.cli.endings import leave
+
+leave(main())
+"""
+
+
+def test_a_signal_ends_a_window_that_waits_for_a_book_in_use(moon: Path) -> None:
+    words = ["window", str(moon), "--wait", "600"]
+    with Session(moon):
+        ended = subprocess.run(
+            [sys.executable, "-c", _ENDED_AT_PAUSE, *words],
+            capture_output=True,
+            timeout=120,
+        )
+    assert (ended.returncode, ended.stdout) == (-signal.SIGTERM, b"")
+    assert ended.stderr.startswith(b"Stopped by SIGTERM.")

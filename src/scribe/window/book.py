@@ -8,7 +8,7 @@ from dataclasses import dataclass, replace
 from pathlib import Path
 from typing import Any
 
-from braildesk import Displaced, Lost, Paragraph, Refused, Session, requests
+from braildesk import CannotOpen, Displaced, Lost, Paragraph, Refused, Session, requests
 from braildesk.desk import search
 from braildesk.desk.around_marks import corrections, prints_between
 from braildesk.desk.change import Change, change_place
@@ -36,6 +36,7 @@ from braildesk.desk.layout import PageSize
 from braildesk.desk.places import cells_of, words_of
 from braildesk.desk.readings import ParagraphReading, answers
 from braildesk.desk.tables import table_request
+from braildesk.opening import waited
 from braildesk.protocol.requests import Command, Request
 from braildesk.session import HeldFile
 from braildesk.text.cells import braille_patterns
@@ -203,7 +204,16 @@ class OpenBook:
         Raises `Displaced` if the file that the session before had is held, and another is there now.
         """
         look = self._while_waiting
-        session = Session(self.path, timeout=self._wait, while_waiting=look)
+
+        def attempt() -> Session:
+            try:
+                return Session(self.path, while_waiting=look)
+            except CannotOpen:
+                # another program may have it, for which a window that is to end doesn't wait
+                look()
+                raise
+
+        session = waited(attempt, self._wait)
         try:
             return self._with(session, held)
         except BaseException:
