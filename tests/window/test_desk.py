@@ -868,6 +868,30 @@ def test_of_a_paragraph_on_no_page_it_is_said_why_it_is_on_none(
     desk.act("give_up")
 
 
+def test_a_paragraph_without_words_is_said_to_have_none_in_the_book_once_some_are_typed(
+    application: QApplication, desk: Desk
+) -> None:
+    desk.window.show()
+    desk.do(requests.Correct(3, 0, 29, ""))
+    desk.choose(2)
+
+    def is_on_page(begin: str) -> None:
+        assert wait(application, 60, lambda: _on_page(desk).startswith(begin))
+
+    desk.act("page")
+    none = "Paragraph 3 has no words, and takes no line."
+    is_on_page(none)
+    assert desk.window.message.text == none
+    desk.window.print.insertPlainText("So")
+    is_on_page("Paragraph 3 has no words in the book yet, so it is on no page.")
+    assert desk.window.message.text == ""
+    desk.act("take_back")
+    is_on_page(none)
+    desk.window.print.insertPlainText("So")
+    desk.act("keep")
+    is_on_page("Paragraph 3, ")
+
+
 def test_no_page_is_shown_of_a_book_that_was_changed_meanwhile(
     application: QApplication, desk: Desk, monkeypatch: pytest.MonkeyPatch
 ) -> None:

@@ -976,6 +976,10 @@ class Desk:
         if not self.is_typed() and self.new is None:
             window.here.show_text("")
             return
+        is_on_page = window.dock.isVisible() and self.new is None
+        if is_on_page and not self.is_closed and (why := self.why_no_page):
+            # that it has no words may be said there, which is so of the book alone now
+            self._show_why(why)
         # nothing is at fault where nothing stands, as after what stood there was given up
         fault = self._preview.fault if self._preview and text else ""
         count = f"{counted(len(text), 'character')}, not in the book yet."

@@ -41,8 +41,13 @@ class View:
         dock = desk.window.dock
         dock.setVisible(not dock.isVisible())
         desk.update_page(True)
-        shown = desk.why_no_page or "The page is shown beside the book."
-        desk.say(shown if dock.isVisible() else "The page is hidden.")
+        if not dock.isVisible():
+            desk.say("The page is hidden.")
+        elif why := desk.why_no_page:
+            desk.say(why)
+            desk.until_typed()
+        else:
+            desk.say("The page is shown beside the book.")
 
     def pages_said(self) -> None:
         """Has the page and line be said of what is gone to, or not any more."""
