@@ -11,8 +11,8 @@ from threading import Event
 from typing import Any
 
 import pytest
-from PyQt6.QtCore import QEvent, QMimeData, QPointF, Qt, QTimer, QUrl
-from PyQt6.QtGui import QDropEvent, QKeyEvent
+from PyQt6.QtCore import QEvent, QMimeData, QPoint, QPointF, Qt, QTimer, QUrl
+from PyQt6.QtGui import QDragEnterEvent, QDropEvent, QKeyEvent
 from PyQt6.QtWidgets import QApplication, QDialog, QLabel
 
 from braildesk import CannotOpen, Session, Style, Why, copy, new_book, requests
@@ -228,6 +228,23 @@ def test_a_file_that_is_dropped_is_imported(
     desk.window.dropEvent(drop)
     assert wait(application, 60, lambda: imported == [text, text])
     assert len(_prints(desk)) == 5
+
+
+def test_of_several_files_that_are_dropped_it_is_said_that_none_is_imported(
+    application: QApplication, desk: Desk, tmp_path: Path
+) -> None:
+    data, keys = QMimeData(), Qt.KeyboardModifier.NoModifier
+    names = ("one.txt", "two.txt")
+    data.setUrls([QUrl.fromLocalFile(str(tmp_path / name)) for name in names])
+    its = Qt.DropAction.CopyAction, data, Qt.MouseButton.LeftButton, keys
+    enter = QDragEnterEvent(QPoint(9, 9), *its)
+    enter.ignore()
+    desk.window.dragEnterEvent(enter)
+    assert enter.isAccepted()
+    desk.window.dropEvent(QDropEvent(QPointF(9, 9), *its))
+    said = "2 files were dropped, and nothing was typed. Ctrl+I imports one at a time."
+    assert wait(application, 60, lambda: desk.window.message.text == said)
+    assert len(_prints(desk)) == 3
 
 
 @pytest.mark.parametrize(

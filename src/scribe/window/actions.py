@@ -34,6 +34,7 @@ class Actions:
         #: Asks about what waits from before.
         self.offer = Offers(desk, typed, files, changing).offer
         desk.window.dropped.connect(files.dropped)
+        desk.window.several_dropped.connect(files.several_dropped)
         field = desk.window.print
         field.pasted.connect(typed.take_lines)
         field.lines_dropped.connect(typed.take_dropped)

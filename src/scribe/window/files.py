@@ -49,6 +49,7 @@ _TEXTS = (
 _ASKED = "The &folder to which the volumes go, which is made if it isn't there:"
 _AGAIN = "Import it again to have the rest typed too."
 _PAGES = "pages"
+_SEVERAL = "{} files were {}, and nothing was typed. Ctrl+I imports one at a time."
 #: What is said where something was pasted that is neither text nor files.
 NO_TEXT = "There is no text to put in, so nothing was typed."
 
@@ -150,8 +151,7 @@ class Files:
         """Asks whether a file that was pasted is imported; its path is no text."""
         desk = self.desk
         if len(paths) > 1:
-            said = f"{len(paths)} files were pasted, and nothing was typed."
-            raise Stop(f"{said} Ctrl+I imports one at a time.")
+            raise Stop(_SEVERAL.format(len(paths), "pasted"))
         (path,) = paths
         number = desk.number
         where = "" if number is None else f" after paragraph {number}"
@@ -169,6 +169,11 @@ class Files:
             )
             return
         self.desk.acting(lambda: self.imported(path))
+
+    def several_dropped(self, count: int) -> None:
+        """Says that of several files that were dropped none is imported."""
+        desk, said = self.desk, _SEVERAL.format(count, "dropped")
+        (desk.say_after if desk.is_acting else desk.refuse)(said)
 
     def imported(self, path: Path, way: Way = Way.ASK) -> None:
         """Types the paragraphs of a text after the chosen one."""

@@ -30,7 +30,7 @@ from braildesk.text.characters import is_visible, visible
 from braildesk.text.excerpt import opening
 from braildesk.text.spans import Span
 
-from scribe.window.fields import AROUND, Cells, Field, Print, take_copy
+from scribe.window.fields import AROUND, Cells, Field, Print, files_of, take_copy
 from scribe.window.menus import Menus
 from scribe.window.paragraphs import WORDS, Paragraphs, Table
 from scribe.window.spoken import Spoken
@@ -63,8 +63,9 @@ def title_of(name: str) -> str:
 class Window(QMainWindow):
     """The paragraphs of a book, the print and the cells of the chosen one, and what is said."""
 
-    #: A file was dropped on the window.
+    #: A file was dropped on the window; or so many at once.
     dropped = pyqtSignal(Path)
+    several_dropped = pyqtSignal(int)
     #: Something was pasted into the paragraphs or the braille.
     pasted = pyqtSignal()
     #: A dialog was opened over the window, or none is any more.
@@ -301,11 +302,10 @@ class Window(QMainWindow):
         return self.menus.letter(event)
 
     def dragEnterEvent(self, event: QDragEnterEvent | None) -> None:
-        """Takes one file, of which a copy is offered: it is read where it is."""
+        """Takes files of which a copy is offered: one is read where it is, and of several that is said."""
         data = event.mimeData() if event is not None else None
-        if event is not None and data is not None and len(data.urls()) == 1:
-            if data.urls()[0].isLocalFile():
-                take_copy(event)
+        if event is not None and data is not None and files_of(data):
+            take_copy(event)
 
     def dragMoveEvent(self, event: QDragMoveEvent | None) -> None:
         """Takes what came in, as a copy still."""
@@ -315,9 +315,15 @@ class Window(QMainWindow):
     def dropEvent(self, event: QDropEvent | None) -> None:
         """Says which file was dropped, once the program from which it comes waits no more."""
         data = event.mimeData() if event is not None else None
-        if event is not None and data is not None and data.urls() and take_copy(event):
-            path = Path(data.urls()[0].toLocalFile())
-            QTimer.singleShot(0, lambda: self.dropped.emit(path))
+        files = files_of(data) if data is not None else []
+        if event is not None and files and take_copy(event):
+            QTimer.singleShot(0, lambda: self._tell_of(files))
+
+    def _tell_of(self, files: Sequence[Path]) -> None:
+        if len(files) == 1:
+            self.dropped.emit(files[0])
+        else:
+            self.several_dropped.emit(len(files))
 
     def closeEvent(self, event: QCloseEvent | None) -> None:
         """Ends the work on the book, unless there is something to see to first."""
