@@ -909,6 +909,27 @@ def test_a_paragraph_without_words_is_said_to_have_none_in_the_book_once_some_ar
     is_on_page("Paragraph 3, ")
 
 
+def test_the_page_is_that_of_the_book_that_is_at_the_path_by_now(
+    application: QApplication, desk: Desk
+) -> None:
+    desk.window.show()
+    desk.act("page")
+    assert wait(application, 60, lambda: "page 1, line 1, " in _on_page(desk))
+    other = desk.path.with_name("other.braildesk")
+    lines = ("Mars " * 20, "The Sun", "The stars are far away.", "It set.")
+    typed = [requests.Type("end", "en", line.strip()) for line in lines]
+    new_book(other, holding=[requests.Supply("en"), *typed])
+    other.replace(desk.path)
+    desk.act("heading")
+    assert desk.is_closed
+    desk.act("open_again")
+    assert not desk.is_closed
+    desk.choose(1)
+    assert wait(application, 60, lambda: "page 1, line 5, " in _on_page(desk))
+    desk.choose(3)
+    assert wait(application, 60, lambda: "page 1, line 7, " in _on_page(desk))
+
+
 def test_no_page_is_shown_of_a_book_that_was_changed_meanwhile(
     application: QApplication, desk: Desk, monkeypatch: pytest.MonkeyPatch
 ) -> None:

@@ -794,6 +794,8 @@ class OpenBook:
 
     def _with(self, session: Session, held: HeldFile | None = None) -> Contents:
         self._session, self._file = session, identity_of(self.path)
+        # another file may be at the same version
+        self._laid = None
         if self._was_open:
             # what was kept before is at stake in this session as well
             session.guard(held)
