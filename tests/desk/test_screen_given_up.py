@@ -465,6 +465,24 @@ def test_lines_that_are_left_for_later_wait_without_those_of_the_book(
     assert "“Two. Three.”" in asked(sit(moon))
 
 
+def test_lines_that_can_not_be_left_for_later_without_those_of_the_book_stay_asked_about(
+    moon: Path, sit: Sit, monkeypatch: pytest.MonkeyPatch
+) -> None:
+    draft = Draft(Aim.AFTER, 2, "en", "", "One.\nTwo.\nThree.", version=7)
+    Drafts(moon).save(draft)
+    with Session(moon) as session:
+        session.ask(requests.Type(2, "en", "One."))
+    sat = sit(moon)
+    with monkeypatch.context() as patched:
+        patched.setattr(OwnFolder, "write", no_room)
+        sat.press("l")
+        assert sat.state.message.startswith("It can't be left for later. What is typed")
+        assert "“Two. Three.”" in asked(sat)
+        sat.press("y", "y", "escape")
+    prints = [sat.state.openings[each.id].words for each in sat.state.book[1:5]]
+    assert prints == ["The Tides", "One.", "Two.", "Three."]
+
+
 def test_a_text_that_is_left_for_later_waits_through_other_work(
     moon: Path, sit: Sit
 ) -> None:

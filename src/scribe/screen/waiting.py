@@ -1,7 +1,6 @@
 """Texts that were typed and aren't in the book: they are set aside, and asked about again."""
 
 from collections.abc import Callable
-from contextlib import suppress
 from dataclasses import replace
 
 from braildesk import Session
@@ -30,6 +29,7 @@ from scribe.words.drafts import (
     Unsent,
     as_paragraphs,
     changed_since,
+    not_kept,
     typed_at_offer,
     what_for,
     while_struck,
@@ -53,6 +53,7 @@ _ONCE_OPEN = (
 )
 _LATER = "The text waits. U asks about it, and so does an opening at which no newer one waits."
 _NOT_LATER = "The text couldn't be kept to wait. U brings it back."
+_STAYS_ASKED = "It can't be left for later."
 _KEPT = "They are kept as a text, which U brings back."
 # others may have been given up, and be in the book since
 _NO_TEXT = "No text is set aside in this book."
@@ -78,8 +79,12 @@ def with_text(
     said = _LATER if offered and unsent.waits(offered) else _NOT_LATER
     if offered and unsent.waiting != offered and said == _LATER:
         # the lines that the book has don't wait any more
-        with suppress(NotKept):
+        try:
             unsent.keep(offered)
+        except NotKept as fault:
+            if unsent.waiting and unsent.waiting.text != offered.text:
+                # U would bring these back as well
+                return state.saying(f"{_STAYS_ASKED} {not_kept(fault)}")
     unsent.put_off()
     return replace(state, question=None, anchor=None).saying(said)
 
