@@ -16,7 +16,7 @@ from terminal import Open, Terminal, once_free, standing_in
 from tool import ROOT
 
 
-WAITS = "What was typed and isn't in the book is kept, and is offered when the book is next opened. "
+WAITS = "A text that was typed and isn't in the book is kept, and is offered when the book is next opened. "
 HUNG_UP, SIGNALS = "hung up", ["SIGHUP", "SIGTERM", "SIGQUIT", "SIGHUP SIGTERM"]
 WAYS = [HUNG_UP, *SIGNALS]
 

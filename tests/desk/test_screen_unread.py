@@ -6,7 +6,7 @@ import pytest
 
 from scribe.screen.field import Field, Purpose
 from scribe.screen.keyboard import Pasted, Stroke
-from scribe.screen.state import Size, State, lines_typed
+from scribe.screen.state import Pages, Size, State, lines_typed
 from scribe.screen.unread import rest_of, unread_of
 
 STATE = State("moon.braildesk", 7, (), ("en",), Size(80, 24), table="en")
@@ -46,3 +46,10 @@ def test_a_text_that_is_typed_while_nothing_is_done_is_kept_after_a_key_in_it() 
     unread = unread_of(TYPED, came)
     assert unread is not None and unread.lines == "It stood. It set."
     assert unread.rest.text == ""
+
+
+def test_letters_at_a_list_above_a_text_are_no_part_of_it_and_are_said() -> None:
+    keys = Pages("Keys while typing.", ("Enter: keeps it",))
+    rest = rest_of(replace(TYPED, pages=keys), ["s", "enter", "h"])
+    assert lines_typed(rest.state) == ("The moon",)
+    assert (rest.letters, rest.state.ended) == ("sh", None)

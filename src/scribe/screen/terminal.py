@@ -71,7 +71,8 @@ _CLASSES = {
 _SAVE_SECONDS = 1.0
 # how long Escape waits for a key that would make it Alt
 _ESCAPE_SECONDS = 0.1
-_WAITS = "What was typed and isn't in the book is kept, and is offered when the book is next opened."
+# others may be among those that were given up, or were typed where no key types anything
+_WAITS = "A text that was typed and isn't in the book is kept, and is offered when the book is next opened."
 _UNKEPT = "This was given up, and is kept nowhere:"
 _NO_END = "The end of the pasted text didn't come. All that came is taken as pasted, and keys act again."
 _TOO_SOON = "That key came before the question could be read, and was no answer to it."

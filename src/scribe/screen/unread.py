@@ -30,7 +30,7 @@ class Rest:
 def rest_of(state: State, came: Sequence[Stroke]) -> Rest:
     """What keys come to: what comes after Enter is another new paragraph, or else is set aside."""
     rest = Rest(state)
-    is_of_line = state.typed is not None and state.question is None
+    is_of_line = state.is_typing and state.question is None
     is_ended = False
     for stroke in came:
         if isinstance(stroke, Pasted):
