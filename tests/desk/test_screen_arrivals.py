@@ -450,6 +450,82 @@ def test_keys_act_again_where_the_end_of_a_paste_never_comes(
         assert session.print_of(4) == "It rose."
 
 
+def slowly_pasted(
+    book: Path, at: Open, monkeypatch: pytest.MonkeyPatch, typed: str
+) -> Terminal:
+    """A terminal in which a text is pasted whose end hasn't come, and what came is kept by now."""
+    monkeypatch.setattr("scribe.screen.arrivals._LULL_SECONDS", NO_PAUSE)
+    terminal = at(book, 160)
+    terminal.wait("? shows the keys.")
+    terminal.keys(*(["o", *typed] if typed else []))
+    terminal.send("\x1b[200~It rose.\rIt se")
+    drafts, end = Drafts(book), time.monotonic() + WAIT_SECONDS
+    while "It se" not in str([drafts.waiting(), drafts.unread()]):
+        assert time.monotonic() < end
+        time.sleep(0.01)
+    return terminal
+
+
+@pytest.mark.parametrize(
+    "typed, said",
+    [
+        ("Oh: ", "was typed and isn't in the book: “Oh: It rose. It se”."),
+        ("", "typed where no text was asked for is set aside: “It rose. It se”."),
+    ],
+)
+def test_what_came_of_a_paste_is_there_if_scribe_is_killed_before_its_end(
+    moon: Path, at: Open, monkeypatch: pytest.MonkeyPatch, typed: str, said: str
+) -> None:
+    terminal = slowly_pasted(moon, at, monkeypatch, typed)
+    terminal.send_signal(signal.SIGKILL)
+    assert terminal.ended() == -signal.SIGKILL
+    at(moon, 160).wait(said)
+    given_up = [each.text for each in Drafts(moon).given_up()]
+    assert given_up == ([] if typed else ["It rose.\nIt se"])
+
+
+@pytest.mark.parametrize("typed", ["Oh: ", ""])
+def test_a_paste_of_which_a_part_was_kept_goes_in_once_at_its_end(
+    moon: Path, at: Open, monkeypatch: pytest.MonkeyPatch, typed: str
+) -> None:
+    terminal = slowly_pasted(moon, at, monkeypatch, typed)
+    assert not any("It se" in line for line in terminal.lines)
+    terminal.send("t.\x1b[201~")
+    if typed:
+        terminal.wait("Are they 2 paragraphs?")
+        terminal.answer("y")
+        terminal.wait("last kept: paragraph 5")
+        terminal.keys("escape")
+    else:
+        terminal.wait("Pasted text goes in after Enter or o.")
+    terminal.keys("q")
+    assert terminal.ended() == 0
+    given_up = [each.text for each in Drafts(moon).given_up()]
+    assert given_up == ([] if typed else ["It rose.\nIt set."])
+    assert (Drafts(moon).waiting(), Drafts(moon).unread()) == (None, None)
+    with Session(moon) as session:
+        prints = [session.print_of(each) for each in range(4, 6)] if typed else []
+    assert prints == (["Oh: It rose.", "It set."] if typed else [])
+
+
+def test_that_lines_whose_paste_was_slow_can_not_be_kept_is_said_at_their_end(
+    moon: Path, at: Open, monkeypatch: pytest.MonkeyPatch
+) -> None:
+    monkeypatch.setattr("scribe.screen.arrivals._LULL_SECONDS", NO_PAUSE)
+    monkeypatch.setattr("scribe.screen.terminal._SAVE_SECONDS", 0.1)
+    terminal = at(moon, 160, XDG_STATE_HOME="/proc/nowhere")
+    terminal.wait("? shows the keys.")
+    terminal.keys("o")
+    terminal.wait("-- New paragraph after paragraph 1")
+    terminal.send("\x1b[200~It rose.\rIt se")
+    terminal.await_read()
+    # longer than until what came is to be kept
+    time.sleep(0.5)
+    terminal.send("t.\x1b[201~")
+    terminal.wait("Are they 2 paragraphs?")
+    terminal.wait("What is typed can't be kept in /proc/nowhere")
+
+
 def test_keys_that_were_typed_while_a_command_was_under_way_act_one_by_one(
     moon: Path, at: Open
 ) -> None:

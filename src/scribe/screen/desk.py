@@ -380,6 +380,10 @@ class Desk:
         fault = self._keep(state)
         return state.saying_too(fault) if fault else state
 
+    def keep_so_far(self, state: State) -> None:
+        """Keeps what is typed before all of it came; what is in the way is said once that is there."""
+        self._keep(state)
+
     def _keep(self, state: State) -> str:
         """Keeps what is typed and what was cut, or nothing, and gives what is in the way of it."""
         if state.question is not None and state.question.draft is not None:

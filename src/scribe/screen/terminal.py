@@ -645,8 +645,8 @@ class Screen:
             # all of it: the same text, set aside, takes its place
             self._desk.keep_unread(unread_of(self.state, [text], True))
         state = self._desk.paste(self.state, text.text, text.is_keys)
-        if self._arrivals.is_unread:
-            self._desk.keep_unread(None)
+        # what came of it before its end is kept by itself no more
+        self._desk.keep_unread(None)
         self._become(state if text.has_end else state.saying_too(_NO_END))
 
     @property
@@ -794,10 +794,14 @@ class Screen:
         while True:
             await asyncio.sleep(_SAVE_SECONDS)
             state = self.state
+            is_unread = bool(state.away) or self._arrivals.holds_unread
+            is_pasting = self._keyboard.is_pasting and not is_unread
             # lines that are typed beside the screen are kept there, and here what comes after them
-            if state.away or self._arrivals.holds_unread:
+            if is_unread:
                 self._keep_unread()
-            if state.typed and not state.away:
+            elif is_pasting:
+                self._keep_paste(state)
+            if state.typed and not (state.away or is_pasting):
                 self._begin_work()
                 kept = self._desk.save_draft(state)
                 if kept is not state:
@@ -809,6 +813,15 @@ class Screen:
                 await loop.run_in_executor(None, self._desk.keep_place, state)
             before = self.state
             await loop.run_in_executor(None, self._desk.typed_last.keep)
+
+    def _keep_paste(self, state: State) -> None:
+        """Keeps what is typed with what came of a paste by now; what isn't part of it is kept by itself."""
+        rest = rest_of(state, copy(self._keyboard).rest())
+        self._desk.keep_unread(unread_of(rest.state, rest.aside, True))
+        if state.typed:
+            self._begin_work()
+            self._desk.keep_so_far(rest.state)
+            self._end_work()
 
     def _fail(self, loop: asyncio.AbstractEventLoop, context: dict[str, Any]) -> None:
         """What a key, or what goes on beside the keys, failed by.
