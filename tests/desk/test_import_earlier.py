@@ -189,8 +189,8 @@ def test_the_same_import_is_refused_where_it_was_cut_short(killed: Path) -> None
         f"{where(5)}\n--continue goes on with line 6, --again types all of it once more,"
         " and --leave leaves the rest out. Nothing was typed.\n"
     )
-    assert again(killed) == Ran(2, "", asked)
-    assert again(killed, "--lines", "--dry-run") == Ran(2, "", asked)
+    for words in ([], ["--lines", "--dry-run"], ["--lines", "--from", "1"]):
+        assert again(killed, *words) == Ran(2, "", asked)
     shutil.copyfile(killed.parent / "text.txt", killed.parent / "copy.txt")
     assert ran("import", killed, "copy.txt").said == asked
     assert prints(killed) == ["front", *LINES[:5], "end"]

@@ -603,9 +603,9 @@ def test_an_answer_that_is_refused_comes_back(talk: Prompted, moon: Path) -> Non
 def test_a_control_character_is_refused(talk: Prompted) -> None:
     assert talk.type("request mark 1 0 3 a\x16\x1bb") == [
         "Character 13 of the line is U+001B",
-        "ESCAPE, a control character. Texts and",
-        "notes can't have one here. Nothing was",
-        "changed.",
+        "ESCAPE, a control character. Texts,",
+        "notes and names can't have one here.",
+        "Nothing was changed.",
     ]
 
 

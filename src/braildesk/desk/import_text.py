@@ -425,7 +425,8 @@ class Importer:
             if job.way is Way.GO_ON:
                 raise NoneCutShort(job.text)
             return job
-        if job.way is Way.AGAIN or job.line is not None:
+        # from its first line on, a text begins as if none were said
+        if job.way is Way.AGAIN or job.line not in (None, 1):
             return job
         with opened() as session:
             try:

@@ -124,7 +124,7 @@ def control_refused(line: bytes, what: str = "line") -> str | None:
     character = found.group().decode()
     return (
         f"Character {len(before) + 1} of the {what} is {code_and_name(character)}, a control"
-        " character. Texts and notes can't have one here. Nothing was changed."
+        " character. Texts, notes and names can't have one here. Nothing was changed."
     )
 
 

@@ -19,8 +19,8 @@ from scribe.words.status import Status, Stop
 MORE = """\
 The copy has what stands in the file FILE-wal too, is opened, and gets its name only
 then. A file that is there already is left as it is, unless --overwrite says that the
-copy takes its place, which only that of a book can be, and of none that is open. Of a
-book that another program has open, the copy has all that was kept before."""
+copy takes its place: that of a book that nobody has open, or of an empty file. Of a book
+that another program has open, the copy has all that was kept before."""
 
 
 def add_parser(subparsers: Subparsers) -> ArgumentParser:

@@ -35,7 +35,7 @@ without --again.
 DOCX, ODT, EPUB, HTML and Markdown are read by pandoc, and RTF and DOC by LibreOffice, if
 these are installed; which of them it is, is found. Headings become headings. What a book
 can't hold, as emphasis and the form of tables, is said before anything is typed, and so is
-each word of the file that no paragraph has."""
+each word of its text that no paragraph has."""
 EXAMPLE = """\
 echo 'The sun is farther away.' > sun.txt && scribe import moon.braildesk sun.txt
 echo '# The Sun' > sun.md && scribe import moon.braildesk sun.md --volumes 1 --dry-run"""

@@ -32,9 +32,9 @@ from scribe.words.volumes import (
 MORE = """\
 Without --pages the volumes are shown as they are. With --pages it is proposed where
 volumes begin so that none has more pages: at headings, and before another paragraph only
-where what is between two headings has too many pages by itself. As few volumes as can be
-are proposed, of a size as even as can be without more pages; one that ends where there is
-no heading is full. --set does what is proposed."""
+where what is between two headings has too many pages by itself, as seldom as can be. Of
+these ways one with the fewest volumes is taken, of a size as even as can be without more
+pages; one that ends where there is no heading is full. --set does what is proposed."""
 EXAMPLE = """\
 scribe volumes moon.braildesk
 scribe volumes moon.braildesk --pages 80
