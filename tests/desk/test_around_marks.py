@@ -439,3 +439,15 @@ def test_an_edit_of_a_long_print_with_marks_all_over_takes_no_time_that_is_felt(
         assert len(corrections(old, new, marks)) > 1
         times.append(time.process_time() - begun)
     assert min(times) < 0.05
+
+
+def test_an_edit_of_a_print_with_marks_from_anywhere_to_anywhere_ends_soon() -> None:
+    old = [f"w{number}" for number in range(700)]
+    text, new = " ".join(old), " ".join(old[1::2])
+    ends = range(0, len(text) // 2, 11)
+    spans = [(start, len(text) - stop) for start in ends for stop in ends]
+    marks = [Mark(n, *span, False, False, "?") for n, span in enumerate(spans, 1)]
+    begun = time.process_time()
+    least = smallest_correction(text, new)
+    assert len(spans) > 20_000 and corrections(text, new, marks) == (least,)
+    assert time.process_time() - begun < 5

@@ -22,6 +22,8 @@ from braildesk.text.spans import Span
 _MOST_STEPS = 10_000_000
 #: A correction is moved to one of so many places, those that are nearest to it.
 _MOST_PLACES = 64
+#: An edit isn't parted around marks that are on more characters together, which would take too long.
+_MOST_MARKED = 4_000_000
 #: The scripts that put no blanks between words: Thai and Lao, Burmese, Khmer, kana and ideographs.
 _ALONE = (
     range(0x0E00, 0x0F00),
@@ -84,7 +86,8 @@ def corrections(old: str, new: str, marks: Iterable[Mark]) -> tuple[Correction, 
     if least is None:
         return ()
     spans = {Span(mark.start, mark.stop) for mark in marks}
-    edit = _edit(old, new, least, spans) if spans else None
+    is_soon = sum(its.stop - its.start for its in spans) <= _MOST_MARKED
+    edit = _edit(old, new, least, spans) if spans and is_soon else None
     if edit is None or not edit.near:
         return (least,)
     found = _parted(old, new, _stays(edit))
