@@ -20,6 +20,7 @@ from braildesk.desk import export
 from braildesk.desk.layout import PageSize
 from braildesk.desk.ranges import PageRange
 from braildesk.desk.whole_file import Access, write_whole
+from braildesk.workshop import MayNotLast
 
 from scribe.cli import run_words
 from scribe.words.console import Console
@@ -505,6 +506,47 @@ def test_pages_that_a_stranger_swaps_as_they_are_compared_are_not_said_to_be_unc
     assert not file.is_symlink()
 
 
+def gone(out: Path) -> str:
+    """What is said of a folder that isn't at its path any more."""
+    return (
+        f"The folder {out} isn't at that path any more. What was exported by then is in that folder,"
+        " unless it was removed."
+    )
+
+
+@pytest.mark.parametrize("moment", ["between", "at the disk's end", "at its end"])
+@pytest.mark.parametrize("is_replaced", [False, True])
+def test_nothing_is_said_to_be_in_a_folder_that_is_renamed_during_an_export(
+    moon: Path, monkeypatch: pytest.MonkeyPatch, moment: str, is_replaced: bool
+) -> None:
+    of_volumes(moon)
+    out, moved = moon.with_name("out"), moon.with_name("moved")
+
+    def rename() -> None:
+        out.rename(moved)
+        if is_replaced:
+            out.mkdir()
+
+    def renamed(*words: Any, **more: Any) -> None:
+        write_whole(*words, **more)
+        rename()
+        if moment == "at the disk's end":
+            raise MayNotLast(errno.EIO, "no sync")
+
+    made = export.Export(export.Job(moon, out, PageSize(), 0)).run()
+    assert isinstance(next(made), export.Written)
+    if moment == "between":
+        rename()
+    else:
+        monkeypatch.setattr(export, "write_whole", renamed)
+    with pytest.raises(export.NotWritten) as failed:
+        next(made)
+    assert not_written(failed.value) == (
+        f"Volume 2 isn't at {out}/moon-2.brf. {gone(out)}"
+    )
+    assert files(moved) == ["moon-1.brf", "moon-2.brf"][: 1 + (moment != "between")]
+
+
 @NEEDS_ROOT
 @pytest.mark.parametrize("is_between", [True, False])
 def test_no_volume_comes_into_a_folder_that_a_stranger_puts_in_the_place_of_that_of_the_first(
@@ -515,10 +557,6 @@ def test_no_volume_comes_into_a_folder_that_a_stranger_puts_in_the_place_of_that
     out.mkdir()
     made = export.Export(export.Job(moon, out, PageSize(), 0)).run()
     assert isinstance(next(made), export.Written)
-    why = (
-        "another program put something else in the place of what was made."
-        f" {out}/moon-2.brf isn't what was exported."
-    )
 
     def swapped(*words: Any, **more: Any) -> None:
         assert as_stranger(lambda: put_link(out, private)) == ""
@@ -526,13 +564,12 @@ def test_no_volume_comes_into_a_folder_that_a_stranger_puts_in_the_place_of_that
 
     if is_between:
         assert as_stranger(lambda: put_link(out, private)) == ""
-        why = f"its folder isn't at that path any more. {out}/moon-2.brf is as it was."
     else:
         monkeypatch.setattr(export, "write_whole", swapped)
     with pytest.raises(export.NotWritten) as failed:
         next(made)
     assert not_written(failed.value) == (
-        f"Volume 2 could not be written: {why} Volume 1 is new. Volume 3 was not made."
+        f"Volume 2 isn't at {out}/moon-2.brf. {gone(out)}"
     )
     assert files(private) == ["moon-2.brf"]
     assert (private / "moon-2.brf").read_bytes() == b"mine"

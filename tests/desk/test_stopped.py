@@ -178,6 +178,30 @@ def test_an_export_that_is_told_to_end_while_it_writes_says_which_files_are_new(
     assert sorted(folder.iterdir()) == files
 
 
+def test_an_export_that_is_told_to_end_says_that_its_folder_was_renamed(
+    volumes: Path, monkeypatch: pytest.MonkeyPatch
+) -> None:
+    calls, replace, folder = 0, os.replace, volumes.with_name("pages")
+
+    def replaced(one: str, other: str, **folders: int) -> None:
+        nonlocal calls
+        calls += 1
+        replace(one, other, **folders)
+        if calls == 2:
+            folder.rename(folder.with_name("moved"))
+            raise Interrupted(signal.SIGTERM)
+
+    monkeypatch.setattr(os, "replace", replaced)
+    said = StringIO()
+    job = Job(volumes, folder, PageSize(), wait=0)
+    with pytest.raises(Interrupted):
+        export_in_words(job, Console(BytesIO(), StringIO(), said))
+    assert said.getvalue() == (
+        f"Stopped by SIGTERM. The folder {folder} isn't at that path any more. What was exported by then"
+        " is in that folder, unless it was removed.\n"
+    )
+
+
 @pytest.mark.parametrize(
     "call, is_renamed", [(4, False), (3, True)], ids=["noted", "not noted yet"]
 )

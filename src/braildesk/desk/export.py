@@ -24,7 +24,6 @@ from braildesk.workshop import (
     MayNotLast,
     OthersLink,
     Place,
-    Swapped,
     own_path,
     place_of,
 )
@@ -203,8 +202,15 @@ class NoFolder(Problem):
         self.cause = cause
 
 
+class FolderGone(OSError):
+    """The folder of the volumes isn't at its path any more, and has what was written so far."""
+
+    def __init__(self) -> None:
+        super().__init__(errno.ESTALE, "its folder isn't at that path any more")
+
+
 class NotWritten(Problem):
-    """The file of a volume couldn't be written, or `MayNotLast`; the files of the others.
+    """The file of a volume couldn't be written, `MayNotLast` or `FolderGone`; the files of the others.
 
     Its changed pages may have been written to a file of their own.
     """
@@ -243,6 +249,8 @@ class Export:
         self._access = Access(0o600)
         #: The folder, which is held open while files are written, so that they come into no other.
         self._folder = -1
+        #: Whether that wasn't at its path any more when it was let go.
+        self.is_folder_gone = False
         #: The files of pages that differ which were written.
         self.changed_files: list[Path] = []
         #: The file that was begun last, with its pages, unless it had these before.
@@ -379,6 +387,7 @@ class Export:
         try:
             yield
         finally:
+            self.is_folder_gone = not self._has_folder()
             os.close(self._folder)
 
     def _has_folder(self) -> bool:
@@ -423,14 +432,14 @@ class Export:
         is_there = os.path.lexists(file)
         self._begun = None if _has(file, pages) else (file, pages)
         try:
+            if self._has_folder():
+                write_whole(file, pages, access, held=self._folder)
             if not self._has_folder():
-                raise OSError(errno.ESTALE, "its folder isn't at that path any more")
-            write_whole(file, pages, access, held=self._folder)
-            if not self._has_folder():
-                raise Swapped
-        except OSError as cause:
+                raise FolderGone
+        except OSError as failed:
+            cause = failed if self._has_folder() else FolderGone()
             files = self._beside(volume, file, cause)
-            raise NotWritten(volume, file, cause, is_there, files, changed) from cause
+            raise NotWritten(volume, file, cause, is_there, files, changed) from failed
 
     def _beside(self, volume: int, file: Path, cause: OSError) -> Files:
         """What the files of the volumes have if one wasn't written, or only pages of a volume weren't."""

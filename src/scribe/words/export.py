@@ -19,6 +19,7 @@ from braildesk.desk.export import (
     Differences,
     Export,
     Files,
+    FolderGone,
     Job,
     LeftOut,
     NoFolder,
@@ -202,6 +203,9 @@ def _why_no_folder(none: NoFolder) -> str:
 
 def not_written(fault: NotWritten) -> str:
     """What is said of a volume that couldn't be written, and of the others."""
+    if isinstance(fault.cause, FolderGone):
+        moved = _of_folder_gone(fault.file.parent)
+        return f"Volume {fault.volume} isn't at {fault.file}.{moved}"
     if isinstance(fault.cause, MayNotLast):
         return may_not_last(fault.file, fault.cause) + _files(fault.files)
     left = "is as it was" if fault.is_there else "was not made"
@@ -219,9 +223,19 @@ def _so_far(made: Export) -> str:
     files = made.so_far()
     if files is None:
         return " Nothing was exported."
+    if made.is_folder_gone:
+        return _of_folder_gone(made.job.folder)
     changed = map(made.job.changed_file, files.as_before)
     pages = [_of_changed_pages(file) for file in changed if file in made.changed_files]
     return _files(files) + "".join(pages)
+
+
+def _of_folder_gone(folder: Path) -> str:
+    """Where what was exported is if its folder isn't at its path any more, after a blank."""
+    return (
+        f" The folder {folder} isn't at that path any more. What was exported by then is in that folder,"
+        " unless it was removed."
+    )
 
 
 def _of_changed_pages(file: Path) -> str:
