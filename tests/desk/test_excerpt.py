@@ -82,6 +82,18 @@ def test_words_that_fill_more_than_a_line_are_shown_whole() -> None:
     ]
 
 
+@pytest.mark.parametrize("width", range(14, 19))
+def test_words_left_out_have_an_ellipsis_also_where_the_others_fill_a_line(
+    width: int,
+) -> None:
+    for start, stop in ((20, 34), (0, 12), (26, len(TEXT))):
+        found = excerpt_lines("Paragraph 3: ", TEXT, start, stop, width)
+        shown = " ".join(line.strip() for line in found[1:])
+        before, after = shown.split("[")[0], shown.split("]")[1]
+        assert before == TEXT[:start] or before.startswith("…")
+        assert after == TEXT[stop:] or after.endswith("…")
+
+
 @given(
     text=st.text("ab ⠍海\u0301", min_size=1, max_size=120),
     start=st.integers(0, 119),

@@ -98,9 +98,9 @@ class Excerpts:
         if size + _BESIDE <= room or size + others <= room:
             return [head + self.line(start, stop, room)]
         lines = wrap(head, width, _INDENT)
-        if size <= width:
-            return [*lines, self.line(start, stop, width)]
         before, after = _CUT if start else "", _CUT if stop < len(text) else ""
+        if size + len(before + after) <= width:
+            return [*lines, self.line(start, stop, width)]
         words = f"{before}[{visible(text[start:stop])}]{after}"
         return [*lines, *wrap(words, width, _INDENT)]
 
