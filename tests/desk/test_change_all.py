@@ -4,6 +4,8 @@ import os
 import re
 import shutil
 import signal
+import subprocess
+import sys
 from collections.abc import Callable
 from io import BytesIO, StringIO
 from pathlib import Path
@@ -15,7 +17,7 @@ from prompted import Prompted
 from sitting import Sit
 from stand_in import KEPT, KILL_SCRIBE
 from terminal import once_free, standing_in
-from tool import Ran, scribe
+from tool import Ran, environment, scribe
 
 from braildesk import Entry, Kind, Session
 from braildesk.desk.change import Change, change_place
@@ -747,7 +749,8 @@ def test_where_it_is_stopped_and_another_book_is_there_it_is_said_where_the_chan
     said = stopped_after_two(monkeypatch, moons, lambda: earlier.replace(moons))
     saved = moons.with_name(f"{moons.name}-saved-1")
     assert said == (
-        f"Stopped. The file of the book is no longer at “{moons}”: another one was put there while"
+        "Stopped. Of 4 places 2 are changed in the book. The book is at version 7."
+        f" The file of the book is no longer at “{moons}”: another one was put there while"
         " it was open. All of the book, with what was kept last, is in the new file"
         f" “{saved}”. Go on with that one, or look first what is at the old path by now.\n"
     )
@@ -780,6 +783,61 @@ def test_where_the_session_ends_it_is_said_how_many_places_are_changed(
         "The book was opened again: it is at version 7, and what was changed last is in it.\n",
     )
     assert prints(moons) == ["The moon and the Mooon.", "A moonlit mooon", "No mooon"]
+
+
+def test_where_the_book_goes_it_is_said_how_many_places_are_changed_where_it_was_saved(
+    moons: Path, monkeypatch: pytest.MonkeyPatch
+) -> None:
+    left = [2]
+
+    def gone(
+        session: Session, number: int, text: str, place: Span, new: str, by: str | None
+    ) -> Change:
+        left[0] -= 1
+        if not left[0]:
+            moons.unlink()
+        return change_place(session, number, text, place, new, by)
+
+    monkeypatch.setattr("braildesk.desk.change_all.change_place", gone)
+    said = StringIO()
+    words = ["change-all", str(moons), "mooon", "mooons"]
+    status = run_words(words, Console(BytesIO(), StringIO(), said))
+    saved = moons.with_name(f"{moons.name}-saved-1")
+    assert (status, said.getvalue()) == (
+        3,
+        "Of 4 places 2 are changed in the book. The book is at version 7.\n"
+        f"The file of the book is no longer at “{moons}”: it was removed or moved while it was open."
+        f" All of the book, with what was kept last, is in the new file “{saved}”. Go on with that one,"
+        " or look first what is at the old path by now.\n",
+    )
+    # the same words change the others there, and no place twice
+    changed(saved, "mooon", "mooons")
+    assert prints(saved)[:2] == ["The mooons and the Mooon.", "A mooonslit mooons"]
+
+
+def test_where_the_input_ends_and_the_book_is_gone_no_place_is_changed_twice(
+    moons: Path,
+) -> None:
+    words = ("change-all", str(moons), "mooon", "mooons", "--ask")
+    with subprocess.Popen(
+        [sys.executable, "-m", "scribe", *words],
+        env=environment(),
+        stdin=subprocess.PIPE,
+        stdout=subprocess.DEVNULL,
+        stderr=subprocess.PIPE,
+        encoding="utf-8",
+    ) as process:
+        assert process.stdin and process.stderr
+        process.stdin.write("yes\n")
+        process.stdin.flush()
+        asked = [process.stderr.readline() for _ in range(2)]
+        assert len({*asked}) == 1
+        moons.unlink()
+        process.communicate()
+    assert process.returncode == 3
+    saved = moons.with_name(f"{moons.name}-saved-1")
+    changed(saved, "mooon", "mooons")
+    assert prints(saved)[:2] == ["The mooons and the Mooon.", "A mooonslit mooons"]
 
 
 def test_a_talk_changes_all_by_the_same_word_and_asks(moons: Path) -> None:

@@ -946,6 +946,24 @@ def test_a_line_that_was_broken_off_comes_back_at_the_next_talk(
     assert talk.end("quit\r").status == 0
 
 
+@pytest.mark.parametrize("end", ["\r", signal.SIGTERM, None])
+def test_a_line_whose_book_is_gone_comes_back_where_all_of_that_was_saved(
+    talk: Prompted, moon: Path, end: str | signal.Signals | None
+) -> None:
+    line = "type end en It is far."
+    talk.type("strike 1")
+    moon.unlink()
+    if isinstance(end, str):
+        talk.end(line + end)
+    else:
+        talk.shown_keys(line)
+        talk.wait_for_ticks()
+        talk.stop_by(end) if end is not None else talk.hang_up()
+    saved = talk_about(moon.with_name(f"{moon.name}-saved-1"))
+    assert saved.greeting[1:] == [COMES_BACK, line]
+    assert saved.end("quit\r").status == 0
+
+
 def test_a_line_that_came_back_and_was_answered_comes_back_no_more(
     moon: Path,
 ) -> None:

@@ -61,8 +61,12 @@ def _opened(
         return session_of(beginning, arguments.wait)
 
     if command.may_change(arguments):
-        with opened() as session:
-            yield session
+        session = opened()
+        try:
+            with session:
+                yield session
+        finally:
+            follow(session, arguments.file)
     else:
         with looked_at(arguments, console, opened) as (session, arguments.read_at):
             yield session
@@ -98,8 +102,10 @@ def said_where_stopped(
         except Lost as lost:
             # what the session was just doing is in the book or isn't
             now, lost_as = _version_after(lost, arguments, first), lost.sentence
-        what = lost_as if now is None else so_far(now - first, now)
-        console.say(f"{stopped_by(cause)} {what}")
+            if now is not None and not isinstance(lost, Displaced):
+                lost_as = ""
+        what = "" if now is None else so_far(now - first, now)
+        console.say(" ".join(filter(None, (stopped_by(cause), what, lost_as))))
         raise Interrupted.after(cause) from cause
     except Lost as lost:
         now = _version_after(lost, arguments, first)
@@ -115,15 +121,26 @@ def said_where_stopped(
 
 def _version_after(lost: Lost, arguments: Namespace, first: int) -> int | None:
     """The version to which the changes of a lost session brought the book, if that is seen."""
-    if isinstance(lost, Displaced):
-        # another file may stand at the path, which doesn't say what was changed
+    # another file may stand at the path of a book that is gone, which doesn't say what was changed
+    file = lost.saved if isinstance(lost, Displaced) else arguments.file
+    if file is None:
         return None
     with suppress(DeskError):
-        now = check(arguments.file, timeout=getattr(arguments, "wait", USUAL_WAIT))
+        now = check(file, timeout=getattr(arguments, "wait", USUAL_WAIT))
         # others may have changed the book since
         if first <= now <= lost.version + len(lost.unanswered):
             return now
     return None
+
+
+def follow(session: Session, book: Path) -> None:
+    """Has what is kept for a book that is gone be known where all of that was saved, too."""
+    lost = session.lost
+    if isinstance(lost, Displaced) and lost.saved is not None:
+        # imported here, since few sessions are lost
+        from braildesk.desk.drafts import Drafts
+
+        Drafts(book).copy_to(Path(lost.saved))
 
 
 @contextmanager

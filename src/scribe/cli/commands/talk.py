@@ -9,7 +9,7 @@ from braildesk.protocol.requests import BY_NAME
 from braildesk.text.characters import visible
 
 from scribe.cli import prompt_words
-from scribe.cli.opened_book import open_session
+from scribe.cli.opened_book import follow, open_session
 from scribe.cli.own_modules import hold_modules
 from scribe.cli.commands import AT_PROMPT
 from scribe.cli.parser import (
@@ -70,7 +70,7 @@ def add_parser(subparsers: Subparsers) -> ArgumentParser:
 
 def run(arguments: Namespace, console: Console) -> Status:
     """Talks until the person ends it."""
-    with ExitStack() as opened:
+    with ExitStack() as closed, ExitStack() as opened:
         session = opened.enter_context(open_session(arguments, console))
         lines = opened.enter_context(_lines(console))
         conversation = Conversation(
@@ -87,6 +87,8 @@ def run(arguments: Namespace, console: Console) -> Status:
             f" {'paragraph' if count == 1 else 'paragraphs'}. Type help, or quit to end."
         )
         broken_off = opened.enter_context(BrokenOff(conversation, arguments.file))
+        # the end of the session may show that the book is gone
+        closed.callback(lambda: follow(conversation.session, arguments.file))
         while (lost := _talk(conversation, arguments.file, broken_off)) is not None:
             again, said = opened_again(arguments.file, lost, conversation.shown)
             console.say(*said)
