@@ -341,7 +341,9 @@ def test_too_few_words_are_refused(tmp_path: Path) -> None:
 
 
 def test_without_a_table_the_list_is_named(tmp_path: Path) -> None:
-    assert refused(tmp_path).startswith("Which table is to be brought over?")
+    ran = scribe("bring", folder=tmp_path)
+    assert (ran.status, ran.shown) == (1, "")
+    assert ran.said.startswith("Which table is to be brought over?")
 
 
 def test_a_list_is_written_to_no_file(tmp_path: Path) -> None:

@@ -166,9 +166,10 @@ def run(arguments: Namespace, console: Console) -> Status:
             console.say(LEGEND)
         return Status.DONE
     if arguments.table is None:
-        raise Stop(
+        raise WordsRefused(
             "Which table is to be brought over? `scribe bring --list` shows those that the"
-            " installed liblouis has."
+            " installed liblouis has.",
+            arguments.usage,
         )
     try:
         table = named_table(arguments.table)
