@@ -527,6 +527,49 @@ def test_ctrl_c_ends_scribe_as_the_folders_of_packages_are_looked_for(
     assert (done.returncode, done.stdout, done.stderr) == (-signal.SIGINT, "", "")
 
 
+#: The same of SIGTERM when the file of some module is read.
+SIGTERM_AT = """\
+import os, signal, sys
+
+def heard(event, words):
+    if event == "open" and os.environ["SIGTERM_AT"] in str(words[0]):
+        os.kill(os.getpid(), signal.SIGTERM)
+
+sys.addaudithook(heard)
+"""
+
+
+@pytest.mark.parametrize(
+    "name, module",
+    [
+        ("strike", "edits"),
+        ("strike", "beginning"),
+        ("strike", "session"),
+        ("new", "making"),
+        ("copy", "making"),
+        ("run", "session"),
+        ("talk", "typed_lines"),
+    ],
+)
+def test_a_signal_before_a_command_does_anything_is_told_so(
+    moon: Path, name: str, module: str
+) -> None:
+    (moon.parent / "sitecustomize.py").write_text(SIGTERM_AT)
+    paths = f"{moon.parent}:{ROOT / 'src'}"
+    done = subprocess.run(
+        [sys.executable, "-m", "scribe", name, *WORDS[name]],
+        cwd=moon.parent,
+        env=environment(PYTHONPATH=paths, SIGTERM_AT=f"{module}."),
+        capture_output=True,
+        text=True,
+    )
+    said = "Stopped by SIGTERM. Nothing was done.\n"
+    assert (done.returncode, done.stdout, done.stderr) == (-signal.SIGTERM, "", said)
+    assert not any(moon.with_name(each).exists() for each in WORDS["copy"][1:])
+    assert not moon.with_name(*WORDS["new"]).exists()
+    assert braildesk.check(moon) == 7
+
+
 def test_a_loop_of_a_shell_stops_where_ctrl_c_stops_scribe(moon: Path) -> None:
     loop = f"for turn in 1 2 3; do '{sys.executable}' -m scribe run moon.braildesk; echo $turn; done"
     process = subprocess.Popen(

@@ -6,7 +6,7 @@ from collections.abc import Collection, Sequence
 from contextlib import suppress
 
 from scribe.cli.commands import COMMANDS, command, may_change
-from scribe.cli.endings import ended, lost_besides, said_of
+from scribe.cli.endings import ended, lost_besides, not_begun, said_of
 from scribe.cli.parser import (
     Parser,
     TextAsked,
@@ -50,14 +50,16 @@ def make_parser(names: Collection[str] = COMMANDS.keys()) -> Parser:
 
 def run_words(words: Sequence[str], console: Console) -> Status:
     """Runs the command that the words ask for, and says what kept it from being done."""
-    parser, arguments = make_parser(words[:1]), Namespace()
+    arguments = Namespace()
     try:
-        if words and not words[0].startswith("-") and words[0] not in COMMANDS:
-            parser.refuse(unknown_command(words[0], list(COMMANDS)))
-        arguments = parser.parse_args(words)
-        console = as_asked(console, arguments)
-        if led := _of_link(arguments):
-            console.say(led)
+        with not_begun():
+            parser = make_parser(words[:1])
+            if words and not words[0].startswith("-") and words[0] not in COMMANDS:
+                parser.refuse(unknown_command(words[0], list(COMMANDS)))
+            arguments = parser.parse_args(words)
+            console = as_asked(console, arguments)
+            if led := _of_link(arguments):
+                console.say(led)
         with in_sentences(lambda: may_change(arguments)):
             status: Status = arguments.run(arguments, console)
             console.flush()

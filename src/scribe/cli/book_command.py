@@ -8,6 +8,7 @@ from typing import TYPE_CHECKING, TypeAlias
 
 from braildesk.desk import USUAL_WAIT
 
+from scribe.cli.endings import not_begun
 from scribe.cli.parser import Parser, Subparsers, add_file, command_parser, counted
 from scribe.words.console import Console
 from scribe.words.status import Status
@@ -63,15 +64,17 @@ class BookCommand:
 
     def run(self, arguments: Namespace, console: Console) -> Status:
         """Opens the book, and does what the words ask for."""
-        from braildesk.beginning import Beginning
+        with not_begun():
+            from braildesk.beginning import Beginning
 
         self.judge(arguments)
         if arguments.wait is None:
             arguments.wait = USUAL_WAIT if self.may_change(arguments) else 0.0
         waiting = console.waiting()
         with self.beside(arguments), Beginning(arguments.file, waiting) as beginning:
-            # imported once the program is at work, as is what answers
-            from scribe.cli.opened_book import answered
+            with not_begun():
+                # imported once the program is at work, as is what answers
+                from scribe.cli.opened_book import answered
 
             return answered(self, beginning, arguments, console)
 

@@ -38,6 +38,7 @@ _BEGAN = time.time() - 1
 _HOLDER = "scribe.cli.own_modules"
 _IN_THE_BOOK = "What was reported as kept is in the book, and what was asked after that may be there too."
 _NOTHING_CHANGED = "No book was changed."
+_NOTHING_DONE = "Nothing was done."
 
 
 def ended(
@@ -100,7 +101,10 @@ def _status(
 
 
 def lost_besides(failure: BaseException) -> tuple[str, ...]:
-    """What is said of a session that was lost as something else ended it, if one was."""
+    """What is said of a session that was lost as something else ended it, if one was.
+
+    Or that nothing was done, where it was stopped before.
+    """
     return tuple(getattr(failure, "__notes__", ()))
 
 
@@ -126,6 +130,16 @@ def _may_have_changed(may_change: Callable[[], bool]) -> bool:
     with suppress(Exception):
         return may_change()
     return True
+
+
+@contextmanager
+def not_begun() -> Iterator[None]:
+    """Has it be said that nothing was done if it is stopped here, before a command does anything."""
+    try:
+        yield
+    except KeyboardInterrupt as cause:
+        cause.add_note(_NOTHING_DONE)
+        raise
 
 
 @contextmanager

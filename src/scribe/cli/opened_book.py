@@ -27,6 +27,7 @@ from braildesk.text.excerpt import excerpt_lines
 from braildesk.text.spans import Span
 
 from scribe.cli.book_command import BookCommand
+from scribe.cli.endings import not_begun
 from scribe.words.console import Console
 from scribe.words.paragraph import quoted
 from scribe.words.status import Interrupted, Status, Stop, stopped_by
@@ -39,7 +40,8 @@ def answered(
     console: Console,
 ) -> Status:
     """Does what the words of a command ask for, on the book that a program has begun to open."""
-    answer = command.answering()
+    with not_begun():
+        answer = command.answering()
     # others may have a book that is looked at once it is read, whenever that is read on by a person
     ahead = nullcontext(console) if command.may_change(arguments) else console.ahead()
     with places_shown(console.columns), ahead as console:
@@ -58,7 +60,8 @@ def _opened(
     """The session of a command."""
 
     def opened() -> Session:
-        return session_of(beginning, arguments.wait)
+        with not_begun():
+            return session_of(beginning, arguments.wait)
 
     if command.may_change(arguments):
         session = opened()
@@ -74,9 +77,10 @@ def _opened(
 
 def open_session(arguments: Namespace, console: Console) -> Session:
     """A session with the book that the words name, which says where it waits for the program."""
-    return Session(
-        arguments.file, timeout=arguments.wait, while_waiting=console.waiting()
-    )
+    with not_begun():
+        return Session(
+            arguments.file, timeout=arguments.wait, while_waiting=console.waiting()
+        )
 
 
 @contextmanager

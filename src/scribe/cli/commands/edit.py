@@ -13,6 +13,7 @@ from braildesk import Lost
 from braildesk.text.shell_words import command_line
 from braildesk.text.wrapping import Offered
 
+from scribe.cli.endings import not_begun
 from scribe.cli.own_modules import hold_modules
 from scribe.cli.page_size import add_page_size, page_size_of
 from scribe.cli.parser import Subparsers, add_file, command_parser, words
@@ -67,9 +68,10 @@ def run(arguments: Namespace, console: Console) -> Status:
         raise Stop(Offered(dumb, talk))
     try:
         # imported here, since only this command needs prompt_toolkit
-        from scribe.screen.desk import Desk
-        from scribe.screen.state import Size
-        from scribe.screen.terminal import Screen
+        with not_begun():
+            from scribe.screen.desk import Desk
+            from scribe.screen.state import Size
+            from scribe.screen.terminal import Screen
     except ImportError as missing:
         raise not_loaded(
             missing,

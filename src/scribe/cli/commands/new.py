@@ -5,7 +5,7 @@ from argparse import ArgumentParser, Namespace
 from braildesk import new_book
 from braildesk.desk.tables import first_table
 
-from scribe.cli.endings import made_or_not
+from scribe.cli.endings import made_or_not, not_begun
 from scribe.cli.parser import Subparsers, add_file, command_parser
 from scribe.words.console import Console, OutputFailed
 from scribe.words.status import Status
@@ -30,7 +30,8 @@ def add_parser(subparsers: Subparsers) -> ArgumentParser:
 
 def run(arguments: Namespace, console: Console) -> Status:
     """Makes a book, and puts a table into it."""
-    request, file = first_table(), arguments.file
+    with not_begun():
+        request, file = first_table(), arguments.file
     made = f"{file} is a new book with the table {request.table}."
     with made_or_not(console, file, made, f"{file} has what it had."):
         new_book(file, holding=[request], timeout=arguments.wait)

@@ -9,6 +9,7 @@ from braildesk.protocol.requests import BY_NAME
 from braildesk.text.characters import visible
 
 from scribe.cli import prompt_words
+from scribe.cli.endings import not_begun
 from scribe.cli.opened_book import follow, open_session
 from scribe.cli.own_modules import hold_modules
 from scribe.cli.commands import AT_PROMPT
@@ -71,8 +72,9 @@ def add_parser(subparsers: Subparsers) -> ArgumentParser:
 def run(arguments: Namespace, console: Console) -> Status:
     """Talks until the person ends it."""
     with ExitStack() as closed, ExitStack() as opened:
-        session = opened.enter_context(open_session(arguments, console))
-        lines = opened.enter_context(_lines(console))
+        with not_begun():
+            session = opened.enter_context(open_session(arguments, console))
+            lines = opened.enter_context(_lines(console))
         conversation = Conversation(
             session,
             lines,

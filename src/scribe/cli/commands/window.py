@@ -4,7 +4,7 @@ import os
 from argparse import ArgumentParser, Namespace
 from typing import TYPE_CHECKING
 
-from scribe.cli.endings import say_last
+from scribe.cli.endings import not_begun, say_last
 from scribe.cli.own_modules import hold_modules
 from scribe.cli.page_size import add_page_size, page_size_of
 from scribe.cli.parser import Subparsers, add_file, command_parser, words
@@ -47,7 +47,8 @@ def run(arguments: Namespace, console: Console) -> Status:
     _check_screen()
     try:
         # imported here, since only this command needs PyQt6
-        from scribe.window.application import Application, NoBook
+        with not_begun():
+            from scribe.window.application import Application, NoBook
     except ImportError as missing:
         raise not_loaded(
             missing,
