@@ -527,7 +527,7 @@ def test_ctrl_c_ends_scribe_as_the_folders_of_packages_are_looked_for(
     assert (done.returncode, done.stdout, done.stderr) == (-signal.SIGINT, "", "")
 
 
-#: The same of SIGTERM when the file of some module is read.
+#: The same of SIGTERM when the file of some module, or the book, is opened.
 SIGTERM_AT = """\
 import os, signal, sys
 
@@ -544,6 +544,7 @@ sys.addaudithook(heard)
     [
         ("strike", "edits"),
         ("strike", "beginning"),
+        ("strike", "moon"),
         ("strike", "session"),
         ("new", "making"),
         ("copy", "making"),

@@ -15,6 +15,7 @@ from scribe.words.status import Status
 
 if TYPE_CHECKING:
     from braildesk import Session
+    from braildesk.beginning import Beginning
     from braildesk.desk.marks import MarkOfBook
 
 #: The mark that a person deals with from now on, or how a command ends that isn't just done.
@@ -64,14 +65,10 @@ class BookCommand:
 
     def run(self, arguments: Namespace, console: Console) -> Status:
         """Opens the book, and does what the words ask for."""
-        with not_begun():
-            from braildesk.beginning import Beginning
-
         self.judge(arguments)
         if arguments.wait is None:
             arguments.wait = USUAL_WAIT if self.may_change(arguments) else 0.0
-        waiting = console.waiting()
-        with self.beside(arguments), Beginning(arguments.file, waiting) as beginning:
+        with self.beside(arguments), _begun(arguments, console) as beginning:
             with not_begun():
                 # imported once the program is at work, as is what answers
                 from scribe.cli.opened_book import answered
@@ -81,6 +78,14 @@ class BookCommand:
     def may_change(self, arguments: Namespace) -> bool:
         """Whether its words may have it change the book."""
         return not self.looks or bool(self.changes and self.changes(arguments))
+
+
+def _begun(arguments: Namespace, console: Console) -> "Beginning":
+    """The program, which begins to open the book."""
+    with not_begun():
+        from braildesk.beginning import Beginning
+
+        return Beginning(arguments.file, console.waiting())
 
 
 def add_nth(parser: ArgumentParser, words: str) -> None:
