@@ -458,7 +458,8 @@ def _judge_log(named: str, kind: type[NotMade], what: str) -> None:
     """
     _judge_name(named, kind, what)
     real = os.path.dirname(real_path(named))
-    if os.path.isdir(real) and not os.path.exists(os.path.dirname(named) or "."):
+    before = os.path.dirname(named)
+    if before and os.path.isdir(real) and not os.path.exists(before):
         # by two full stops after a folder that isn't there
         raise cannot_open(NewBook(named), Why.NO_FOLDER)
     if opening.is_of_system(named):

@@ -2987,6 +2987,22 @@ def test_of_a_file_of_ones_own_nobody_else_is_asked(
     folder.chmod(0o755)
 
 
+def test_a_folder_of_ones_own_that_nobody_may_enter_is_not_said_to_be_none(
+    open_folder: Path,
+) -> None:
+    folder = open_folder / "a folder"
+    folder.mkdir(mode=0o777)
+    if os.getuid() == 0:
+        os.chown(folder, 65534, 65534)
+    shut = f"import os\nos.chdir({str(folder)!r})\nos.chmod('.', 0o600)\n"
+    assert as_nobody(shut + OF_NEW, Path("new")) == (
+        "You aren't permitted to open “new”. Nothing was changed. Its folder is your own, and its"
+        " permissions don't let you read and write in it. This lets you: chmod u+rwx --"
+        f" '{folder}'"
+    )
+    folder.chmod(0o755)
+
+
 LOOKING = """
 import sys
 import braildesk
