@@ -435,6 +435,28 @@ def test_a_link_in_a_shared_folder_leads_an_export_nowhere(moon: Path) -> None:
 
 
 @NEEDS_ROOT
+def test_of_a_folder_that_may_not_be_entered_no_volume_is_said_not_to_be_there(
+    moon: Path,
+) -> None:
+    out = moon.with_name("out")
+    out.mkdir()
+    lead_to(out)
+    out.chmod(0o744)
+
+    def enter() -> None:
+        try:
+            with export.Export(export.Job(moon, out, PageSize(), 0)).made_folder():
+                pass
+        except export.NoFolder as none:
+            assert no_folder(none) == (
+                f"The folder {out} can't be entered: Permission denied. Nothing was exported."
+            )
+            raise
+
+    assert as_stranger(enter) == "NoFolder"
+
+
+@NEEDS_ROOT
 def test_nothing_that_a_stranger_puts_in_a_shared_folder_is_written_to(
     moon: Path,
 ) -> None:

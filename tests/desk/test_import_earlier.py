@@ -189,7 +189,7 @@ def test_the_same_import_is_refused_where_it_was_cut_short(killed: Path) -> None
         f"{where(5)}\n--continue goes on with line 6, --again types all of it once more,"
         " and --leave leaves the rest out. Nothing was typed.\n"
     )
-    for words in ([], ["--lines", "--dry-run"], ["--lines", "--from", "1"]):
+    for words in ((), ("--lines", "--dry-run"), ("--lines", "--from", "1")):
         assert again(killed, *words) == Ran(2, "", asked)
     shutil.copyfile(killed.parent / "text.txt", killed.parent / "copy.txt")
     assert ran("import", killed, "copy.txt").said == asked

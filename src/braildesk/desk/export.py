@@ -381,6 +381,8 @@ class Export:
         try:
             path = own_path(os.fspath(self.job.folder))
             with place_of(os.path.join(path, "")) as place:
+                # what is in a folder that one may not enter isn't seen
+                os.stat(".", dir_fd=place.folder)
                 self._folder = os.dup(place.folder)
         except (OSError, OthersLink) as cause:
             raise NoFolder(self.job.folder, cause) from cause

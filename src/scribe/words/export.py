@@ -197,7 +197,8 @@ def _why_no_folder(none: NoFolder) -> str:
             " folder is made there. Take another path for the folder."
         )
     if isinstance(none.cause, OSError):
-        return f"The folder {none.folder} can't be made: {of_failure(none.cause)}."
+        done = "entered" if none.folder.is_dir() else "made"
+        return f"The folder {none.folder} can't be {done}: {of_failure(none.cause)}."
     return f"{none.folder} can't be a path, which has no character U+0000."
 
 
