@@ -572,11 +572,12 @@ def test_containers_that_no_program_can_read_are_refused(
     assert found.value.why is why
 
 
+@pytest.mark.parametrize("ending", ["", "-template", "-web"])
 def test_a_text_in_odt_is_one_whose_list_of_parts_has_no_address_for_its_prefix(
-    tmp_path: Path,
+    tmp_path: Path, ending: str
 ) -> None:
     manifest = "<m:manifest><m:file-entry/></m:manifest>"
-    parts = {"mimetype": ODT, "META-INF/manifest.xml": manifest}
+    parts = {"mimetype": ODT + ending, "META-INF/manifest.xml": manifest}
     kind = kind_of("moon.ott", container_of(tmp_path / "moon", **parts))
     assert kind is ManuscriptKind.ODT
 

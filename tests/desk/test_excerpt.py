@@ -82,6 +82,16 @@ def test_words_that_fill_more_than_a_line_are_shown_whole() -> None:
     ]
 
 
+@pytest.mark.parametrize("width", range(9, 45))
+@pytest.mark.parametrize("text", [TEXT, TEXT.replace("e", "é\u0301")])
+def test_words_left_out_beside_others_have_an_ellipsis(text: str, width: int) -> None:
+    for start, stop in ((3, 41), (0, 30), (10, len(text)), (20, 29)):
+        before, rest = excerpt(text, start, stop, width).split("[")
+        after = rest.split("]")[1]
+        assert before == text[:start] or before.startswith("…")
+        assert after == text[stop:] or after.endswith("…")
+
+
 @pytest.mark.parametrize("width", range(14, 19))
 def test_words_left_out_have_an_ellipsis_also_where_the_others_fill_a_line(
     width: int,

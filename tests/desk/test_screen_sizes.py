@@ -249,6 +249,24 @@ def test_a_terminal_may_change_its_size_while_print_is_typed_or_a_question_waits
     assert terminal.ended() == 0
 
 
+def test_what_a_very_narrow_terminal_cut_is_there_again_on_a_wide_one(
+    moon: Path, at: Open
+) -> None:
+    terminal = at(moon)
+    terminal.wait("? shows the keys.")
+    terminal.keys("o", "Malsagx vidas ci")
+    terminal.wait("Malsagx vidas ci")
+    for columns in (8, 9):
+        terminal.resize(columns, 24)
+        terminal.wait("idas ci")
+        terminal.resize(80, 24)
+        terminal.wait("keeps it  Escape ends  F1 keys")
+        assert terminal.lines[0].startswith("moon.braildesk")
+        assert "Malsagx vidas ci" in terminal.lines
+    terminal.keys("escape", "q")
+    assert terminal.ended() == 0
+
+
 @pytest.fixture
 def asked(monkeypatch: pytest.MonkeyPatch) -> list[bytes]:
     """The requests that are sent to the program from now on."""

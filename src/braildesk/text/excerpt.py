@@ -12,6 +12,8 @@ _INDENT = "  "
 #: How much of a text beside the words is worth the rest of a line.
 _BESIDE = 10
 _BRACKETS = len("[]")
+#: In how few columns words aren't cut for the sake of the ellipses beside them.
+_LEAST = 5
 #: What stands for a character that isn't known: no text has it.
 NOT_KNOWN = "\ud800"
 #: What ends a word.
@@ -32,7 +34,7 @@ class Excerpts:
         Where words are left out stands an ellipsis, also within the brackets if they are too long.
         """
         room = width - (stop - start) - _BRACKETS
-        if not self._is_plain or room < 0:
+        if not self._is_plain or room < (start > 0) + (stop < len(self._text)):
             return _in_brackets(self._text, start, stop, width)
         return self._plain_lines([""], [(start, stop)], [room])[0]
 
@@ -181,9 +183,13 @@ def _ending(text: str, spaced: str, stop: int, width: int) -> str:
 
 def _in_brackets(text: str, start: int, stop: int, width: int) -> str:
     """Words in brackets and those around them, whatever is shown of their characters."""
-    words = f"[{_both_ends(visible(text[start:stop]), width - 2)}]"
-    room = width - columns(words)
     before, after = visible(text[:start]), visible(text[stop:])
+    most = width - _BRACKETS
+    cuts = columns(_CUT) * (bool(before) + bool(after))
+    if most - cuts >= _LEAST:
+        most -= cuts
+    words = f"[{_both_ends(visible(text[start:stop]), most)}]"
+    room = width - columns(words)
     front = ending(before, max(room // 2, room - columns(after)))
     return front + words + opening(after, room - columns(front))
 

@@ -271,7 +271,8 @@ class Screen:
             self._fragments, show_cursor=True, get_cursor_position=self._cursor
         )
         application: Application[None] = Application(
-            layout=Layout(Window(control)),
+            # at each drawing from the first column on, wherever the cursor was on a narrower terminal
+            layout=Layout(Window(control, get_horizontal_scroll=lambda window: 0)),
             input=self._input,
             style=_STYLE,
             full_screen=True,

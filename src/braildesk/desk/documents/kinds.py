@@ -123,6 +123,7 @@ _MIME = {
     b"application/epub+zip": ManuscriptKind.EPUB,
     b"application/vnd.oasis.opendocument.text": ManuscriptKind.ODT,
     b"application/vnd.oasis.opendocument.text-template": ManuscriptKind.ODT,
+    b"application/vnd.oasis.opendocument.text-web": ManuscriptKind.ODT,
 }
 _BY_NAME = {
     ".md": ManuscriptKind.MARKDOWN,
