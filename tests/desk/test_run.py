@@ -228,7 +228,7 @@ def test_a_control_character_is_refused_and_nothing_is_sent(
     assert ran == Ran(
         2,
         "end 7\n",
-        f"Line 1: Character 14 of the line is {name}. Texts and notes can't have one"
+        f"Line 1: Character 14 of the line is {name}. Texts, notes and names can't have one"
         " here. Nothing was changed.\n",
     )
 

@@ -197,7 +197,7 @@ def _why_no_folder(none: NoFolder) -> str:
             " folder is made there. Take another path for the folder."
         )
     if isinstance(none.cause, OSError):
-        done = "entered" if none.folder.is_dir() else "made"
+        done = "entered" if os.path.isdir(none.folder) else "made"
         return f"The folder {none.folder} can't be {done}: {of_failure(none.cause)}."
     return f"{none.folder} can't be a path, which has no character U+0000."
 
