@@ -1182,31 +1182,3 @@ def test_what_was_typed_elsewhere_since_a_session_ended_is_set_aside_and_said(
     sat.state = sat.desk.save_draft(sat.state)
     waiting = drafts.waiting()
     assert waiting is not None and waiting.text == "Noon."
-
-
-def test_nothing_is_said_to_be_in_a_book_that_was_copied_over_as_its_session_ended(
-    moon: Path, sit: Sit
-) -> None:
-    other = moon.with_name("other.braildesk")
-    shutil.copyfile(moon, other)
-    with Session(other) as session:
-        session.add_paragraph("end", "en", "Of the other book.")
-    sat = sit(moon)
-    sat.press("s", "o", *"Es war")
-    shutil.copyfile(other, moon)
-    killed(sat)
-    assert sat.state.is_lost and sat.state.pages
-    assert sat.state.pages.lines[:3] == (
-        "The session was ended by signal 9. What was reported as kept isn't all in the book's file and"
-        " its log: another program wrote into them, or removed one, while the book was open. Copy what"
-        " you typed last, and look at the book before you go on.",
-        "This was typed, and was not reported as kept:",
-        "Es war",
-    )
-    sat.press("enter")
-    assert sat.state.is_lost and sat.state.pages
-    assert f"“{moon}-wal” isn't that of “{moon}” as it is" in sat.state.pages.lines[0]
-    Path(f"{moon}-wal").unlink()
-    sat.press("enter")
-    assert sat.state.message.startswith("The file that is at the path now is open.")
-    assert not sat.state.book[0].struck and len(sat.state.book) == 4
