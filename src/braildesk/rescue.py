@@ -15,11 +15,10 @@ from braildesk.refusals import CannotOpen, DeskError, Refused
 from braildesk.text.characters import shortened
 
 _Done = TypeVar("_Done")
-#: What is said where a program ended by itself, and others have spoiled the files besides.
+#: What is said where a command wasn't kept and what others wrote has spoiled the files besides.
 NOT_ALL_THERE = (
     "What was reported as kept isn't all in the book's file and its log: another program wrote into"
-    " them, or removed one, while the book was open. Copy what you typed last, and look at the book"
-    " before you go on."
+    " them while the book was open. Copy what you typed last, and look at the book before you go on."
 )
 #: Why a copy of a book's files isn't opened, whatever is in them.
 _UNTOLD = frozenset(

@@ -439,7 +439,15 @@ class Session(Asking):
             # the program has given up the room of its log by now
             room = opening.room(self._book.path)
         refusal = refused_as(Refusal(Code.NOT_KEPT, request, why=why, room=room))
-        return self._lose(Lost, refusal.sentence)
+        if not self._file.is_at_its_path or self._rescue.has(self._seen):
+            return self._lose(Lost, refusal.sentence)
+        self._is_closed = True
+        waiting = tuple(each for each in self._sent if isinstance(each, Command))
+        from braildesk.rescue import NOT_ALL_THERE  # which few sessions need
+
+        self._lost = self._lost_as(Displaced, refusal.sentence, NOT_ALL_THERE, waiting)
+        self._file.close()
+        return self._lost
 
     def _judge_kept(self) -> None:
         """Whether the file is there and holds what was reported as kept.
@@ -545,11 +553,8 @@ class Session(Asking):
             pass
         return refusal
 
-    def _lose(self, kind: type[Lost], cause: str, is_whole: bool = False) -> Lost:
-        """The exception of a session that can't go on.
-
-        All of the book is in its file if the program ended in order.
-        """
+    def _lose(self, kind: type[Lost], cause: str) -> Lost:
+        """The exception of a session that can't go on."""
         self._is_closed = True
         for _ in range(self._pipe.drop()):
             # what was never written to the program isn't in the book
@@ -561,13 +566,7 @@ class Session(Asking):
             # nor is another file that is there now to be taken for the book
             return self._displaced(f"{cause} ", waiting)
         kept = self._kept(waiting)
-        self._lost = self._untold = self._lost_as(kind, cause, kept, waiting)
-        is_doubtful = not is_whole and (self._is_at_stake or waiting)
-        if is_doubtful and not self._rescue.has(self._seen):
-            from braildesk.rescue import NOT_ALL_THERE  # which few sessions need
-
-            self._lost = self._lost_as(Displaced, cause, NOT_ALL_THERE, waiting)
-        self._untold = None
+        self._lost = self._lost_as(kind, cause, kept, waiting)
         self._file.close()
         return self._lost
 
@@ -655,7 +654,7 @@ class Session(Asking):
         """
         ending = self._pipe.close()
         cause = _ended(ending) if ending.status else self._rescue.without_log()
-        return self._lose(SessionEnded, cause, is_whole=not ending.status)
+        return self._lose(SessionEnded, cause)
 
     def _all_print(self) -> str:
         """The print of all paragraphs, with an empty line between each and the next."""

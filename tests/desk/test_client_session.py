@@ -481,37 +481,6 @@ def test_of_a_killed_session_all_that_was_reported_as_kept_is_there(
     assert len(prints) >= len(kept)
 
 
-@pytest.mark.parametrize("is_copied_first", [True, False])
-@pytest.mark.parametrize("count, has_log", [(1, True), (3, True), (0, False)])
-def test_nothing_is_said_to_be_in_a_book_into_which_another_was_copied_as_its_program_ended(
-    book: Path, is_copied_first: bool, count: int, has_log: bool
-) -> None:
-    other = book.with_name("other")
-    shutil.copyfile(book, other)
-    with Session(other) as session:
-        for _ in range(count):
-            session.add_paragraph("end", "en", "Of another book.")
-    command = requests.Type("end", "en", "Lost.")
-    with Session(book) as session:
-        session.add_paragraph("end", "en", "Kept.")
-        if is_copied_first:
-            shutil.copyfile(other, book)
-        os.kill(session.pid, signal.SIGKILL)
-        os.waitid(os.P_PID, session.pid, os.WEXITED | os.WNOWAIT)
-        if not is_copied_first:
-            shutil.copyfile(other, book)
-        if not has_log:
-            log_of(book).unlink()
-        with pytest.raises(Displaced) as caught:
-            session.ask(command)
-    assert caught.value.sentence == (
-        "The session was ended by signal 9. What was reported as kept isn't all in the book's file and"
-        " its log: another program wrote into them, or removed one, while the book was open. Copy what"
-        " you typed last, and look at the book before you go on."
-    )
-    assert command in (*caught.value.unanswered, caught.value.unsent)
-
-
 def test_one_more_command_is_said_to_be_one(book: Path) -> None:
     with Session(book) as session:
         os.kill(session.pid, signal.SIGSTOP)
@@ -1542,8 +1511,8 @@ def test_a_log_that_others_write_into_while_a_command_runs_is_noticed(
         # the program could not read what it had there, and has ended
         assert caught.value.kept == (
             "What was reported as kept isn't all in the book's file and its log: another program"
-            " wrote into them, or removed one, while the book was open. Copy what you typed last, and"
-            " look at the book before you go on."
+            " wrote into them while the book was open. Copy what you typed last, and look at the book"
+            " before you go on."
         )
     else:
         assert "wrote into the log of the book" in caught.value.cause
