@@ -446,40 +446,6 @@ def test_a_book_that_cannot_be_opened_again_says_why_until_it_can(
     assert sat.state.kept == "kept: paragraph 4"
 
 
-@pytest.mark.parametrize("became", ["sent", "typed on", "sent where all was saved"])
-def test_a_text_that_another_session_took_up_is_not_said_to_wait_once_a_lost_one_ends(
-    moon: Path, sit: Sit, became: str
-) -> None:
-    sat, book = sit(moon), moon
-    sat.press("s", "o", *"Soon.")
-    sat.state = sat.desk.save_draft(sat.state)
-    if became == "sent where all was saved":
-        moon.unlink()
-        killed(sat)
-        book = Path(f"{moon}-saved-1")
-    else:
-        os.kill(sat.desk.pid, signal.SIGKILL)
-        with once_free(moon):
-            sat.state = sat.desk.lost(sat.state)
-    assert sat.state.is_lost and sat.state.pages
-    assert sat.state.pages.lines[-1].startswith("It is kept, and is offered when ")
-    assert sat.desk.not_so_any_more == ()
-    again = sit(book)
-    again.press("y", *([" ", "X"] if became == "typed on" else ["enter"]))
-    again.state = again.desk.save_draft(again.state)
-    sat.state = sat.desk.saved(sat.state)
-    if became == "sent":
-        # it waits again
-        waiting = sat.desk.drafts.waiting()
-        assert waiting and waiting.text == "Soon."
-        assert sat.desk.not_so_any_more == ()
-    else:
-        assert sat.desk.not_so_any_more == (
-            "What was typed here doesn't wait any more: another session took it up. Before that, this"
-            " was reported:",
-        )
-
-
 def test_a_book_that_another_program_took_is_not_said_to_be_unchanged(
     moon: Path, sit: Sit
 ) -> None:

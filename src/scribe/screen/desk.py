@@ -143,10 +143,6 @@ from scribe.words.typed_last import TypedLast
 _OPEN_AGAIN = "The book is open again."
 # of where all of a book that is gone was saved, before what was reported of that
 _NO_FILE = "No file is at “{}” any more. While one was there, this was reported:"
-_TAKEN_UP = (
-    "What was typed here doesn't wait any more: another session took it up. Before that, this was"
-    " reported:"
-)
 # what was kept last if that isn't of this screen, and what becomes of what is
 _OF_OTHERS = "kept: another program's change"
 _LEFT = "Of what was done until now, u takes back only corrections."
@@ -858,14 +854,10 @@ class Desk:
 
     @property
     def not_so_any_more(self) -> tuple[str, ...]:
-        """What isn't so any more of what was said of a book that is gone or closed.
-
-        The file with all of it may be gone too, and another session may have what waits.
-        """
-        if self._saved is not None and is_gone(self._saved):
-            return (_NO_FILE.format(self._saved),)
-        its = self.drafts if self._saved is None else Drafts(self._saved)
-        return (_TAKEN_UP,) if self._unsent.is_taken_up(its) else ()
+        """What isn't so of what was said of a book that is gone: the file with all of it may be gone too."""
+        if self._saved is None or not is_gone(self._saved):
+            return ()
+        return (_NO_FILE.format(self._saved),)
 
     def _copy_kept(self) -> None:
         """Has what is kept by now be found where all of a book that is gone was saved, too."""

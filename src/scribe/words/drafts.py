@@ -363,16 +363,6 @@ class Unsent:
         self._unread = unread
         self.keep_unread(None)
 
-    def is_taken_up(self, drafts: Drafts) -> bool:
-        """Whether the text that waits here was kept with some drafts, and isn't there any more.
-
-        Another session took it up, and types it further, sent it or gave it up.
-        """
-        with suppress(NotKept):
-            its, found = self.waiting, drafts.waiting()
-            return its is not None and not (found and found.is_same_as(its))
-        return False
-
     def keep_unread(self, unread: Unread | None) -> None:
         """Keeps what came while nothing can be done with it, or nothing; may raise `NotKept`."""
         if unread != self._unread:
