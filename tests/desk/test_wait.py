@@ -25,6 +25,8 @@ from braildesk.protocol.sentences import Why
 from braildesk.refusals import cannot_open
 
 from scribe.cli import run_words
+from scribe.cli.commands import edit
+from scribe.cli.endings import lost_besides
 from scribe.words.console import WAITING, Console
 from scribe.words.status import Status
 from strangers import NEEDS_ROOT, as_stranger, lead_to
@@ -159,6 +161,25 @@ def test_others_may_have_a_book_that_somebody_reads_slowly_once_it_is_read(
     assert process.wait() == 0
     found = found.replace(b"\r\n", b"\n")
     assert found.decode().replace(f"{WAITING}\n", "").startswith(whole)
+
+
+@pytest.mark.parametrize("name", ["talk", "edit"])
+def test_who_ends_a_wait_is_told_once_that_nothing_was_done(
+    monkeypatch: pytest.MonkeyPatch, moon: Path, name: str
+) -> None:
+    def stop(seconds: float) -> None:
+        raise KeyboardInterrupt
+
+    with Session(moon) as first:
+        first.strike(2)
+        monkeypatch.setattr(time, "sleep", stop)
+        monkeypatch.setattr(edit, "are_typed", lambda: True)
+        monkeypatch.setenv("TERM", "xterm")
+        console = Console(BytesIO(), StringIO(), StringIO())
+        with pytest.raises(KeyboardInterrupt) as caught:
+            run_words([name, str(moon), "--wait", "20"], console)
+        monkeypatch.undo()
+    assert lost_besides(caught.value) == ("Nothing was done.",)
 
 
 def test_an_import_that_goes_on_waits_too(

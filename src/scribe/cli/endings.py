@@ -138,7 +138,8 @@ def not_begun() -> Iterator[None]:
     try:
         yield
     except KeyboardInterrupt as cause:
-        cause.add_note(_NOTHING_DONE)
+        if _NOTHING_DONE not in lost_besides(cause):
+            cause.add_note(_NOTHING_DONE)
         raise
 
 

@@ -19,6 +19,11 @@ _REPORT = re.compile(
     r"|“[^\n]+” (is replaced by|is left out|stands nowhere)[^\n]*\.\n"
     r"|[^\n]+ is a text\.\n\Z"
 )
+#: What is said where none of what is looked for is lost.
+_NOTHING_LOST = (
+    "No word of it is lost. Quotations, code and lists within lists become paragraphs like the others,"
+    " and rules between these go."
+)
 #: How many bytes that has at most, with the longest path.
 _FRONT_BYTES = 8_192
 _NAMES = {
@@ -213,7 +218,7 @@ def report_lines(path: Path, taken: Taken, most: int | None = None) -> list[str]
         lines += _missing(document.missing, most)
         lines += _losses(document.losses, most)
         if not document.missing and not document.losses:
-            lines.append("Nothing of it is lost.")
+            lines.append(_NOTHING_LOST)
     lines += map(_replaced, taken.replaced)
     return lines
 

@@ -68,7 +68,7 @@ scribe bring --list Spanish
 scribe bring es-g1.ctb spanish.utb"""
 LEGEND = (
     "real lines: of lines of running text that nobody made for the table, the share that agrees with"
-    " liblouis, for languages of which there is some. made-up lines: the same of lines that were made"
+    " liblouis, where they were measured. made-up lines: the same of lines that were made"
     " from the table's letters. others: that share without the lines that differ and need what a table"
     " of braildesk can't have."
 )

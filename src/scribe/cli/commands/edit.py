@@ -80,7 +80,8 @@ def run(arguments: Namespace, console: Console) -> Status:
             " python3-prompt-toolkit. scribe talk works without it.",
         ) from None
     hold_modules()
-    desk = Desk(arguments.file, arguments.wait, console.waiting())
+    with not_begun():
+        desk = Desk(arguments.file, arguments.wait, console.waiting())
     columns, lines = shutil.get_terminal_size()
     environment = encoding.first_environment()
     is_ascii = encoding.is_plain(environment)

@@ -34,8 +34,8 @@ was typed there already, or of which an import of yours was cut short, isn't typ
 without --again.
 DOCX, ODT, EPUB, HTML and Markdown are read by pandoc, and RTF and DOC by LibreOffice, if
 these are installed; which of them it is, is found. Headings become headings. What a book
-can't hold, as emphasis and the form of tables, is said before anything is typed, and so is
-each word of its text that no paragraph has."""
+can't hold, as emphasis and the form of tables, but not what is a quotation or code, is said
+before anything is typed, and so is each word of its text that no paragraph has."""
 EXAMPLE = """\
 echo 'The sun is farther away.' > sun.txt && scribe import moon.braildesk sun.txt
 echo '# The Sun' > sun.md && scribe import moon.braildesk sun.md --volumes 1 --dry-run"""
