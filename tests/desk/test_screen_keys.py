@@ -377,7 +377,7 @@ SAID = {
     "a size of pages": (
         typed(Purpose.SIZE, "30 10"),
         "enter",
-        "Pages of 10 lines of 30 cells, for p and x.",
+        "Pages of 10 lines of 30 cells.",
     ),
     "no size of pages": (
         typed(Purpose.SIZE, "30"),

@@ -129,6 +129,9 @@ class Keyboard:
         if found is None or _FRONT.fullmatch(rest):
             return None
         self._rest = rest[found.end() :]
+        if found.group() == _PASTE_END:
+            # that of a paste of which the end was waited for no longer is no key
+            return self._next()
         return named(found.group())
 
     def _pasted(self) -> Pasted | None:

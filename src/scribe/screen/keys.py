@@ -500,7 +500,7 @@ KEYS = {
         _pages_said,
         False,
     ),
-    "w": Bound("the size of pages, for p and x", _size, False),
+    "w": Bound("the size of pages", _size, False),
     "x": Bound("exports all volumes to a folder", _folder),
     "i": Bound("imports a text file", _new(Purpose.TEXT_FILE, _OF_IMPORT), False),
     "?": Bound("shows the keys of what is being done", _help, False),

@@ -282,7 +282,7 @@ def _with_sheet(state: State, typed: Field) -> State:
         state = replace(state, page_size=typed_page_size(typed.text))
     except NoSize as fault:
         return replace(state, typed=typed).saying(fault.sentence)
-    return state.saying(f"Pages of {described(state.page_size)}, for p and x.")
+    return state.saying(f"Pages of {described(state.page_size)}.")
 
 
 def table_of_new(state: State) -> str | None:

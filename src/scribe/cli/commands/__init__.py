@@ -28,7 +28,7 @@ COMMANDS: Mapping[str, tuple[str, str]] = {
     "try": ("try_table", "Tries a table on print that is typed."),
     "import": ("import_text", "Types the paragraphs of a text file or a document."),
     "show": ("show", "Shows print, braille and marks."),
-    "list": ("list_paragraphs", "Shows a line for each paragraph."),
+    "list": ("list_paragraphs", "Shows each paragraph in short."),
     "history": ("history", "Says who changed what."),
     "compare": ("compare", "Shows the words that differ from a manuscript."),
     "find": ("find", "Finds words or cells in the book."),

@@ -1,4 +1,4 @@
-"""`scribe list`: a line for each paragraph of a book."""
+"""`scribe list`: each paragraph of a book in short."""
 
 from argparse import Namespace
 
