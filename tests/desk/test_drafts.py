@@ -1225,6 +1225,23 @@ def test_what_is_typed_on_at_a_lost_book_replaces_nothing_that_others_type_where
     assert set(other.given_up()) == {first, theirs, NOTE, next_of_theirs}
 
 
+def test_what_came_unread_is_taken_away_where_it_was_copied_once_it_is_elsewhere(
+    moon: Path,
+) -> None:
+    own, other = Drafts(moon), Drafts(moon.with_name("other.braildesk"))
+    ours, theirs = (Unread("", replace(NOTE, text=text)) for text in ("Ours", "Theirs"))
+    for kept, left in ((ours, None), (theirs, theirs)):
+        own.keep_unread(ours)
+        own.copy_to(other.book)
+        assert other.unread() == ours
+        other.keep_unread(kept)
+        own.keep_unread(None)
+        own.copy_to(other.book)
+        assert other.unread() == left
+    own.copy_to(other.book)
+    assert other.unread() == theirs
+
+
 def test_what_is_typed_on_at_a_lost_book_is_found_where_its_saved_file_was_moved_on(
     moon: Path,
 ) -> None:

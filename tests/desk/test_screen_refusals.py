@@ -1,5 +1,6 @@
 """What the desk says where a key asks for what is refused: sentences, and never a code alone."""
 
+import errno
 import re
 import shutil
 from pathlib import Path
@@ -7,6 +8,9 @@ from pathlib import Path
 import pytest
 
 from braildesk import Session
+
+from scribe.screen import desk
+from scribe.screen.background import ActionResult
 from sitting import Sat, Sit
 from stand_in import READ, REPLY
 from terminal import standing_in
@@ -198,6 +202,24 @@ def test_what_is_not_exported_or_imported_is_said(moon: Path, sit: Sit) -> None:
         ),
     ):
         assert after_errand(sat, key, path) == [said]
+
+
+def test_after_an_export_that_the_system_refused_keys_act_again(
+    moon: Path, sit: Sit, monkeypatch: pytest.MonkeyPatch
+) -> None:
+    def refused(*words: object, **settings: object) -> ActionResult:
+        raise PermissionError(errno.EACCES, "Permission denied", "pages")
+
+    sat = sit(moon)
+    monkeypatch.setattr(desk, "done_in_background", refused)
+    sat.press("x")
+    sat.write("pages")
+    sat.press("enter")
+    sat.state = sat.desk.away(sat.state, lambda line: None)
+    assert sat.state.away is None
+    assert "Permission denied." in sat.state.message
+    sat.press("b")
+    assert sat.state.kept and sat.state.kept.startswith("kept: paragraph 1 ")
 
 
 def test_no_text_is_imported_from_the_path_of_a_folder_that_is_not_there(

@@ -10,7 +10,7 @@ from pathlib import Path
 import pytest
 
 from braildesk import Displaced, Session, pipe
-from braildesk.desk.draft import Aim, Draft
+from braildesk.desk.draft import Aim, Draft, Unread
 from braildesk.desk.drafts import Drafts
 from braildesk.desk.own_folder import OwnFolder
 
@@ -1052,6 +1052,24 @@ def test_what_is_typed_once_a_book_is_gone_is_brought_back_where_all_of_it_was_s
     again.press("U")
     asked = again.state.question
     assert asked and "was set aside: “einmal ein Mond”." in asked.sentence
+
+
+def test_what_comes_once_a_book_is_gone_is_kept_where_all_of_it_was_saved_and_once(
+    moon: Path, sit: Sit
+) -> None:
+    sat = sit(moon)
+    sat.press("o")
+    sat.write("Es war")
+    saved = gone(moon, is_moved=False)
+    sat.press("enter")
+    assert sat.state.is_lost
+    so_far = Unread("", Draft(Aim.AFTER, None, None, "", "einmal ein"))
+    sat.desk.keep_unread(so_far)
+    assert Drafts(saved).unread() == so_far
+    sat.state = sat.desk.paste(sat.state, "einmal ein Mond", True)
+    sat.desk.keep_unread(None)
+    assert Drafts(saved).unread() is None
+    assert [each.text for each in Drafts(saved).given_up()] == ["einmal ein Mond"]
 
 
 @pytest.mark.parametrize("is_moved", [True, False])

@@ -105,6 +105,16 @@ def test_each_key_on_an_empty_paragraph(moon: Path, sit: Sit, key: str) -> None:
         check(sat)
 
 
+def test_no_cells_are_chosen_where_there_are_none(moon: Path, sit: Sit) -> None:
+    with Session(moon) as session:
+        session.correct(1, 0, 21, "")
+    sat = sit(moon)
+    for key in (" ", "m"):
+        sat.press(key)
+        assert sat.state.message == "There is no cell here that a mark could stand on."
+        assert sat.state.anchor is None and sat.state.typed is None
+
+
 @pytest.mark.parametrize("key", sorted(set(KEYS) - {"q"}))
 def test_each_key_in_an_empty_book(empty_book: Path, sit: Sit, key: str) -> None:
     sat = sit(empty_book)

@@ -2,7 +2,7 @@
 
 import signal
 import time
-from collections.abc import Callable
+from collections.abc import Callable, Sequence
 from pathlib import Path
 from threading import Event
 from types import SimpleNamespace
@@ -321,9 +321,13 @@ def test_a_space_that_comes_before_a_question_could_be_read_begins_a_text(
     assert typed[-1] == "und hier"
 
 
+@pytest.mark.parametrize("keys", [(), (Qt.Key.Key_Down, Qt.Key.Key_F2)])
 @pytest.mark.parametrize("text", [" ma no", "  ma no", " Ma no"])
 def test_a_text_that_begins_with_a_blank_presses_no_button_and_is_set_aside(
-    application: QApplication, monkeypatch: pytest.MonkeyPatch, text: str
+    application: QApplication,
+    monkeypatch: pytest.MonkeyPatch,
+    text: str,
+    keys: Sequence[Qt.Key],
 ) -> None:
     clock = [0.0]
     monkeypatch.setattr(typed_on, "time", SimpleNamespace(monotonic=lambda: clock[0]))
@@ -332,6 +336,8 @@ def test_a_text_that_begins_with_a_blank_presses_no_button_and_is_set_aside(
 
     def type_on(button: QPushButton, box: QMessageBox) -> None:
         clock[0] = 3600.0
+        for key in keys:
+            _HANDS.keyClick(box.focusWidget(), key)
         for letter in text:
             if box.isVisible():
                 _HANDS.keyClicks(box.focusWidget(), letter)

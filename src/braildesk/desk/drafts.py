@@ -608,6 +608,9 @@ class Drafts:
                         what, Record.of(data).without("book", "file", "generation")
                     )
                 name = other._name(what)
+                if data is None and what is Begun.UNREAD and self._as_copied.get(name):
+                    # what was copied before is elsewhere by now
+                    other._folder.remove(name)
                 self._as_copied[name] = other._folder.read(name)
         self._take_from(other)
 

@@ -335,6 +335,7 @@ class Desk:
             self._unsent.keep_unread(unread)
         except NotKept as fault:
             return not_kept(fault)
+        self._copy_kept()
         return ""
 
     def resized(self, state: State, size: Size) -> State:
@@ -437,6 +438,9 @@ class Desk:
         except Lost as lost:
             none = ActionResult("Export.", ("Nothing was exported.",))
             return _with_report(self._after_loss(state, lost), none)
+        except OSError as failure:
+            # the book is open as it was
+            return state.saying(of_system(failure))
         return self._drawn(_after_closed(state, state, ending))
 
     def _done_while_closed(

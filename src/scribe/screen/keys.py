@@ -62,6 +62,7 @@ from scribe.words.pages import described
 _DOTS = (
     "Dot 7 is under marked cells, dot 8 under those of the cursor. d takes both away."
 )
+_NO_CELL = "There is no cell here that a mark could stand on."
 _QUIET = "Now without the list, and without braille while you type. z ends that."
 _PAGES_SAID = "Now n, N, / and * say the page and line to which they go. P ends that."
 _NO_PAGES_SAID = "Now n, N, / and * say no page and line."
@@ -262,6 +263,8 @@ def _new(purpose: Purpose, said: str = "") -> Callable[[State], Step]:
 
 
 def _choose_cells(state: State) -> Step:
+    if state.reading is not None and not state.reading.braille:
+        return Step(state.saying(_NO_CELL))
     if state.pane is Pane.PRINT:
         state = other_pane(state).state
         return Step(replace(state, anchor=state.place))
@@ -275,7 +278,7 @@ def _mark(state: State) -> Step:
         return _refused_as_struck(state, "marked")
     cells = state.chosen_cells
     if cells is None or cells.stop <= cells.start:
-        return Step(state.saying("There is no cell here that a mark could stand on."))
+        return Step(state.saying(_NO_CELL))
     return Step(state, AskForNote(cells))
 
 

@@ -35,6 +35,8 @@ _SEARCH_SECONDS = 1.0
 # keys that go from one button to another, of which the last are those of a text too
 _TABS = (Qt.Key.Key_Tab, Qt.Key.Key_Backtab)
 _ARROWS = (*(Qt.Key.Key_Left, Qt.Key.Key_Right), *(Qt.Key.Key_Up, Qt.Key.Key_Down))
+# keys that go to parts of the window, where hands don't look at the question
+_TO_PARTS = (Qt.Key.Key_F2, Qt.Key.Key_F5, Qt.Key.Key_F8)
 # keys that go from one name to another
 _TO_NAMES = (
     *(*_ARROWS, Qt.Key.Key_Home, Qt.Key.Key_End),
@@ -238,6 +240,8 @@ class _Blind(QObject):
             return text
         if key in (*_TABS, *_ARROWS):
             self._is_gone_to = True
+        elif key in _TO_PARTS:
+            self._is_gone_to = False
         elif key == Qt.Key.Key_Backspace and text:
             return text[:-1]
         elif key in ENTER and text.strip() and not self._is_gone_to:

@@ -27,8 +27,8 @@ from scribe.words.typed import page_ranges
 
 MORE = """\
 The volumes of moon.braildesk are FOLDER/moon-1.brf, moon-2.brf, and so on, in Braille
-Ready Format. The folder is made if it isn't there. Nothing is written until all
-volumes were read from one version of the book. A volume is written beside an older file
+Ready Format. The folder is made if the one above it is there. Nothing is written until
+all volumes were read from one version of the book. A volume is written beside an older file
 and takes its name only when it is whole. A volume that is refused leaves the older file,
 and so does a full disk. New files are your own, and have the mode of the book for others,
 as far as the umask allows, and its group. If a volume replaces an older file, it is said

@@ -112,7 +112,7 @@ def _add_choices(parser: ArgumentParser) -> None:
         metavar="REPORT",
         type=file_path,
         help="write all that is lost of a document to this file, which replaces an older report"
-        " and nothing else",
+        " or an empty file, and nothing else",
     )
 
 
