@@ -225,7 +225,8 @@ def test_a_paste_may_be_ended_and_keys_that_were_pressed_in_it_are_no_text() -> 
     text = "It rose.\rIt\t set."
     assert keyboard.end_paste() == [Pasted(text, has_end=False)]
     assert not keyboard.is_pasting
-    assert keyboard.strokes("s\x1b[201~x") == ["s", "x"]
+    ends = "\x1b[201~" * 2_000
+    assert keyboard.strokes(f"s{ends}x{ends}") == ["s", "x"]
 
 
 def test_a_paste_is_waited_for_up_to_so_many_characters(

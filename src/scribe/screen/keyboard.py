@@ -12,6 +12,8 @@ from dataclasses import dataclass
 UNKNOWN = "unknown"
 _ESCAPE = "\x1b"
 _PASTE, _PASTE_END = "\x1b[200~", "\x1b[201~"
+# that of a paste of which the end was waited for no longer is no key
+_LATE_ENDS = re.compile(r"\A(?:\x1b\[201~)+")
 # Escape once, or again for Alt, and: a function key of the Linux console; a control sequence, to
 # its last character or to where it breaks off; a key of the keypad's kind; any character
 _KEY = re.compile(
@@ -114,7 +116,7 @@ class Keyboard:
         return [Pasted(text)]
 
     def _next(self) -> Stroke | None:
-        rest = self._rest
+        self._rest = rest = _LATE_ENDS.sub("", self._rest)
         if not rest:
             return None
         if rest.startswith(_PASTE):
@@ -129,9 +131,6 @@ class Keyboard:
         if found is None or _FRONT.fullmatch(rest):
             return None
         self._rest = rest[found.end() :]
-        if found.group() == _PASTE_END:
-            # that of a paste of which the end was waited for no longer is no key
-            return self._next()
         return named(found.group())
 
     def _pasted(self) -> Pasted | None:
