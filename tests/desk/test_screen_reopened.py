@@ -551,7 +551,7 @@ def test_a_command_to_a_book_that_is_gone_from_its_path_is_not_shown_as_kept(
         f"The file of the book is no longer at “{moon}”: it was removed or moved while it was open."
         " All of the book, with what was kept last, is in the new file"
         f" “{saved}”. Go on with that one, or look first what is at the old path by now.",
-        "What was typed last is in it.",
+        "What was typed by then is in it.",
     )
     with Session(saved) as session:
         assert session.print_of(4) == "Soon."
@@ -984,7 +984,7 @@ def test_what_is_in_a_book_that_is_gone_is_said_to_be_and_does_not_wait(
     there = gone(moon, is_moved)
     sat.press("enter")
     assert sat.state.is_lost and sat.state.pages
-    assert sat.state.pages.lines[1:] == ("What was typed last is in it.",)
+    assert sat.state.pages.lines[1:] == ("What was typed by then is in it.",)
     assert not sat.desk.has_waiting and sat.desk.drafts.waiting() is None
     again = sit(there)
     assert again.state.question is None and again.desk.drafts.waiting() is None

@@ -830,7 +830,7 @@ class Desk:
             # it waits neither here nor there, whatever was in the way of that
             state = replace(without_typed(state), question=None)
             state = self.saved(state.saying(""))
-            said.append("What was typed last is in it.")
+            said.append("What was typed by then is in it.")
         self._follow(lost)
         return self._ended(state, *said, is_saved=lost.saved is not None)
 

@@ -21,7 +21,7 @@ _REPORT = re.compile(
 )
 #: What is said where none of what is looked for is lost.
 _NOTHING_LOST = (
-    "No word of it is lost. Quotations, code and lists within lists become paragraphs like the others,"
+    "No word of its text is lost. Quotations, code and lists within lists become paragraphs like the others,"
     " and rules between these go."
 )
 #: How many bytes that has at most, with the longest path.
