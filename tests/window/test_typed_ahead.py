@@ -148,6 +148,7 @@ def test_keys_that_a_screen_reader_hands_on_beneath_a_line_come_into_it(
     assert dialogs.text(window, "Find", "Words:", "moon") == "sea"
 
 
+@pytest.mark.usefixtures("patient")
 @pytest.mark.parametrize("is_by_method", [False, True])
 def test_what_came_before_a_dialog_comes_into_its_first_line_from_its_first_letter_on(
     held: Held, window: QMainWindow, is_by_method: bool

@@ -409,7 +409,7 @@ def add_width(parser: argparse.ArgumentParser) -> None:
         dest="columns",
         metavar="N",
         type=width,
-        help="no line over N columns; if it isn't given, the terminal's width, or that of talk",
+        help="no line over N columns; if it isn't given, the terminal's width, or that of a talk",
     )
 
 
