@@ -231,9 +231,13 @@ def test_an_import_whose_book_is_replaced_goes_on_where_that_is_saved(
         "When nothing stands in the way any more, go on by: scribe import"
         f" {saved} text.txt --lines --from {kept + 1}\n",
     )
+    anew = again(saved, "--lines")
+    assert anew.status == 2
+    assert "--continue goes on with" in anew.said
     assert ran(*cut.said.splitlines()[-1].split()[-6:]).status == 0
     assert prints(saved) == ["front", "end", *LINES]
     assert prints(front) == ["front", "end"]
+    assert Drafts(saved).imports() == ()
 
 
 @pytest.mark.parametrize("is_there", [True, False])

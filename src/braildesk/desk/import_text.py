@@ -314,6 +314,9 @@ class Importer:
             if cut.kept == 0 and not job.line:
                 self._end(note)
                 self._put_back()
+            if cut.saved is not None:
+                # by which the same text is known there too
+                self._drafts.copy_to(cut.saved)
             is_known = not (cut.is_displaced or is_handed_over(job.text))
             cut.is_noted = self._is_noted and is_known
             raise
