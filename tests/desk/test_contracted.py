@@ -673,7 +673,8 @@ def test_a_table_is_made_for_a_text_by_the_command(tmp_path: Path) -> None:
     assert ran.said.splitlines() == [
         "This is the table of liblouis taken over by rules, of which many were learned by asking"
         " liblouis. It is to be proofread, and it is not certified contracted braille.",
-        "2 rules were learned from words, and 0 rules were learned from the manuscript.",
+        "2 rules were learned from words and the table's own words, and 0 rules were learned from the"
+        " manuscript.",
         "Of 13 words of the manuscript text.txt 100% have the cells of liblouis, and of 2"
         " paragraphs 100%.",
         f"out.utb was written, {len((tmp_path / 'out.utb').read_text().splitlines())} lines.",

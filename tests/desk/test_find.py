@@ -131,6 +131,8 @@ def test_cells_are_found_and_the_print_that_they_stand_for(moon: Path) -> None:
     assert find(moon, "--braille", ",M") == wanted
     assert find(moon, "--braille", "⠠⠍").shown == wanted.shown
     assert find(moon, "--braille", ",m").shown == wanted.shown
+    none = "“zzz” isn't in the cells of the book.\n"
+    assert find(moon, "--braille", "zzz") == Ran(0, "", none)
 
 
 def test_the_sign_of_a_number_stands_for_its_first_digit(moon: Path) -> None:

@@ -70,7 +70,9 @@ def cell_lines(
         yield from prints.lines(head, origin.start, origin.stop, width)
 
 
-def found_summary(text: str, tally: Tally, others: Tally, offer: str) -> str:
+def found_summary(
+    text: str, tally: Tally, others: Tally, offer: str, is_of_cells: bool = False
+) -> str:
     """What was found, in a sentence, or what else there is that is like it, after an offer."""
     if others.count:
         return (
@@ -78,7 +80,8 @@ def found_summary(text: str, tally: Tally, others: Tally, offer: str) -> str:
             f" {_counted(others)}{offer}"
         )
     if not tally.count:
-        return f"{quoted(text)} isn't in the book."
+        where = "the cells of the book" if is_of_cells else "the book"
+        return f"{quoted(text)} isn't in {where}."
     too = " too" if tally.has_same else ""
     how = f", with {in_words(tally.kinds)}{too}" if tally.kinds else ""
     return f"Found {quoted(text)} {_counted(tally)}{how}."

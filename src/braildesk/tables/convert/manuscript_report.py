@@ -48,7 +48,8 @@ def _made_for(tailored: Tailored) -> str:
             f"{rules}, and none from a list of words, since none was given or is installed:"
             " words that the manuscript lacks may be wrong."
         )
-    return f"{_learned(tailored.from_list, str(tailored.words.path))}, and {rules}."
+    source = f"{tailored.words.path} and the table's own words"
+    return f"{_learned(tailored.from_list, source)}, and {rules}."
 
 
 def _learned(count: int, source: str) -> str:

@@ -90,7 +90,7 @@ def answer(session: Session, arguments: Namespace, console: Console) -> None:
             console.show(*word_lines(hit, width, at))
         if not (tally.count or arguments.alike):
             others = tallied(find_words(session, text, alike), text)
-    summary = found_summary(text, tally, others, _OFFER)
+    summary = found_summary(text, tally, others, _OFFER, arguments.braille)
     console.say(summary, *not_laid_out(pages))
 
 
