@@ -429,7 +429,7 @@ def test_a_text_that_can_not_be_kept_is_said_beside_where_a_book_was_saved_witho
     said = "".join(terminal.said.split())
     assert f"isinthenewfile“{moon}-saved-1”." in said
     assert said.count("Oh,TheTides") == (0 if is_seen else 1)
-    assert ("Whatwastypedlastisinit." in said) is is_seen
+    assert ("Whatwastypedbythenisinit." in said) is is_seen
     assert ("can'tbekept" in said) is not is_seen
 
 
