@@ -13,6 +13,8 @@ import struct
 from collections.abc import Callable, Iterator, Sequence
 from contextlib import contextmanager, suppress
 from dataclasses import dataclass
+from functools import reduce
+from operator import and_
 from pathlib import Path
 from typing import BinaryIO, Self
 
@@ -404,6 +406,36 @@ def limit_named(file: int, mode: int, named: Sequence[Listed]) -> None:
         return most.get((tag, whom), mode >> 3) if is_named else 7
 
     _limit_listed(file, may_do)
+
+
+def limit_to_older(file: int, mode: int, group: int, named: Sequence[Listed]) -> int:
+    """Lets nobody on the list of access of a file do more with it than with an older one of this user.
+
+    That is known by its mode, the group that the mode means, and what those may do whom its list names.
+    What others may do with the new one at most, who may have been more there, is said.
+    """
+    before = {(tag, whom): may for tag, may, whom in named}
+    older, its = (_OF_OTHER_GROUP, group), (_OF_OTHER_GROUP, os.fstat(file).st_gid)
+    before[older] = before.get(older, 0) | mode >> 3 & stat.S_IRWXO
+    here = {its, *((tag, whom) for tag, _, whom in _named(file))}
+    gone = before.keys() - here - {(_OF_USER, os.geteuid())}
+    of_groups = (may for (tag, _), may in before.items() if tag == _OF_OTHER_GROUP)
+    # whoever wasn't named may have been in any of the groups, or in none
+    least = reduce(and_, of_groups, mode)
+
+    def may_do(tag: int, whom: int) -> int:
+        who = its if tag == _OF_GROUP else (tag, whom)
+        if who not in here:
+            return 7
+        of_members = (
+            before[kind, user]
+            for kind, user in gone
+            if kind == _OF_USER != tag and who[1] in (groups_of(user) or [who[1]])
+        )
+        return reduce(and_, of_members, before.get(who, least))
+
+    _limit_listed(file, may_do)
+    return reduce(and_, (before[who] for who in gone), mode & stat.S_IRWXO)
 
 
 def _limit_listed(file: int, most: Callable[[int, int], int]) -> bool:

@@ -301,6 +301,78 @@ def test_there_neither_the_list_of_the_older_nor_that_of_the_folder_gives_or_tak
     assert gives or os.listxattr(pages) == []
 
 
+@pytest.mark.parametrize("others", [0, 4])
+def test_there_those_whom_the_folder_lists_keep_what_they_may_do_when_it_is_written_again(
+    tmp_path: Path, others: int
+) -> None:
+    tmp_path.chmod(0o777)
+    named = (2, 6, STRANGER), (4, 4, NOBODY), (8, 6, 7), (16, 6, NOBODY)
+    listed = packed(OWNER, *named, (32, others, NOBODY))
+    give_list(tmp_path, "default", listed)
+    pages, access = tmp_path / "pages.brf", Access(0o664, os.getegid(), 0o060)
+    for _ in range(3):
+        write_whole(pages, b"pages", access)
+        assert os.getxattr(pages, "system.posix_acl_access") == listed
+    # what its owner allows by now is kept
+    for allowed in (0o640, 0o600):
+        pages.chmod(allowed)
+        write_whole(pages, b"pages", access)
+        assert mode(pages) == allowed
+
+
+@NEEDS_ROOT
+@pytest.mark.parametrize(
+    "older, others, group, wanted",
+    [
+        # whom it lists and who is in its group by the same number may do what that allows
+        (((2, 4, STRANGER), (4, 6, NOBODY), (16, 6, NOBODY)), 0, 7, (4, 6, 0)),
+        (((2, 6, STRANGER), (4, 6, NOBODY), (16, 4, NOBODY)), 0, 7, (4, 4, 0)),
+        (
+            ((2, 6, STRANGER), (4, 0, NOBODY), (8, 6, 7), (16, 6, NOBODY)),
+            0,
+            8,
+            (6, 6, 0),
+        ),
+        # whom it doesn't list may be in any of its groups, or in none
+        (((4, 6, NOBODY),), 0, 7, (0, 6, 0)),
+        (((4, 6, NOBODY),), 4, 7, (4, 6, 4)),
+        (((4, 4, NOBODY),), 6, 8, (4, 4, 4)),
+        # who is listed there alone is one of the others, and of a group in which that one may be
+        (((2, 0, 8), (4, 6, NOBODY), (16, 6, NOBODY)), 4, 7, (4, 6, 0)),
+        (((2, 4, 99_999), (4, 6, NOBODY), (16, 6, NOBODY)), 0, 7, (0, 4, 0)),
+        (((4, 6, NOBODY), (8, 0, 8), (16, 6, NOBODY)), 4, 7, (0, 6, 0)),
+    ],
+)
+def test_there_nobody_whom_the_folder_lists_may_do_more_than_with_an_older_one(
+    tmp_path: Path,
+    older: tuple[tuple[int, int, int], ...],
+    others: int,
+    group: int,
+    wanted: tuple[int, int, int],
+) -> None:
+    tmp_path.chmod(0o777)
+    lead_to(tmp_path)
+    pages = tmp_path / "pages.brf"
+    pages.write_bytes(b"older")
+    os.chown(pages, -1, group)
+    give_list(pages, "access", packed(OWNER, *older, (32, others, NOBODY)))
+    of_folder = (2, 6, STRANGER), (4, 6, NOBODY), (16, 6, NOBODY), (32, 4, NOBODY)
+    give_list(tmp_path, "default", packed(OWNER, *of_folder))
+
+    def may_do() -> set[str]:
+        opened = {
+            how: as_stranger(lambda: pages.open(how).close()) for how in ("rb", "ab")
+        }
+        return {how for how, said in opened.items() if not said}
+
+    before = may_do()
+    write_whole(pages, b"newer", Access(0o664, 7, 0o060))
+    found = os.getxattr(pages, "system.posix_acl_access")
+    may = {tag: may for tag, may, _ in struct.iter_unpack("<HHI", found[4:])}
+    assert (may[2] & may[16], may[4] & may[16], may[32]) == wanted
+    assert may_do() <= before
+
+
 @pytest.mark.parametrize(
     "book, umask, wanted",
     [(0o600, 0o022, 0o600), (0o664, 0o002, 0o664), (0o644, 0o077, 0o600)],

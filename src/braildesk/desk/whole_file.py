@@ -32,6 +32,7 @@ from braildesk.workshop import (
     limit_named,
     limit_of,
     limit_of_another_group,
+    limit_to_older,
     may_of_named,
     mode_of,
     set_list,
@@ -126,6 +127,8 @@ class Kept(Value):
     #: Its list of access (ACL), if it has one, and what those may do at most who are on that.
     listed: tuple[Listed, ...]
     most: int
+    #: What each of those may do whom the list names, and its owner.
+    named: tuple[Listed, ...]
     #: What may be done at most with a file without that list, so that nobody whom it names may do more.
     limit: int
     #: Whether it has another name, so that somebody else may have given it this one.
@@ -139,7 +142,8 @@ class Kept(Value):
         listed = tuple(access_list(file))
         mode, limit = mode_of(file, found) & ANYONE, limit_of(file, found, found.st_gid)
         is_linked = found.st_nlink > 1
-        return cls(mode, found.st_gid, listed, most, mode & limit, is_linked)
+        named = may_of_named(file)
+        return cls(mode, found.st_gid, listed, most, named, mode & limit, is_linked)
 
 
 def _is_read_by(process: int, file: int) -> bool:
@@ -443,7 +447,12 @@ def _give(
 
 def _limit_of_older(file: int, older: Kept) -> int:
     """What the mode of a new file allows at most, with which nobody may do more than with an older one."""
-    if os.fstat(file).st_gid == older.group and not access_list(file):
+    if access_list(file):
+        with suppress(OSError):
+            mode = older.mode & (older.most | ~stat.S_IRWXG)
+            others = limit_to_older(file, mode, older.group, older.named)
+            return older.mode & stat.S_IRWXU | older.most | others
+    elif os.fstat(file).st_gid == older.group:
         return older.limit
     return older.limit & limit_of_another_group(older.limit)
 
