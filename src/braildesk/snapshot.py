@@ -21,7 +21,6 @@ from braildesk.program import StrPath
 from braildesk.protocol.asked import AskedOfFile, BookFile
 from braildesk.protocol.sentences import Why, of_failure
 from braildesk.refusals import Failed, Refused, cannot_open, refused_as
-from braildesk.session import Session
 from braildesk.workshop import give_access, give_list, made_for_a_while, open_made
 
 #: How long a file stays as it is before it is copied, so that a later change shows in its times.
@@ -41,33 +40,35 @@ def snapshot(path: StrPath, like: int | None = None) -> Iterator[Path]:
     meanwhile. Nothing is made or changed beside the book's file, and nobody has to wait. If it is to
     be that of a descriptor, no other is copied that stands at the path for a moment.
     """
+    with _made(path, like) as (copy, _):
+        yield copy
+
+
+@contextmanager
+def _made(path: StrPath, like: int | None) -> Iterator[tuple[Path, os.stat_result]]:
+    """Such a copy, and what it was as it was made."""
     book = BookFile.of(path)
     with ExitStack() as stack:
         try:
             copied = stack.enter_context(made_for_a_while())
-            _copy(book, copied, like)
+            found = _copy(book, copied, like)
         except OSError as error:
             raise _not_copied(book, error) from error
-        yield copied
+        yield copied, found
 
 
 @contextmanager
-def copied_session(path: StrPath) -> Iterator[tuple[Session, Path]]:
-    """A session with a copy of a book, and where that is; what is refused names the book itself."""
-    with copied(path) as copy, Session(copy) as session:
-        yield session, copy
-
-
-@contextmanager
-def copied(path: StrPath, like: int | None = None) -> Iterator[Path]:
+def copied(
+    path: StrPath, like: int | None = None
+) -> Iterator[tuple[Path, os.stat_result]]:
     """A copy that may be opened, also of a book that may only be read, as ``snapshot`` makes it.
 
-    What is refused of the copy names the book itself.
+    What it was as it was made is said too. What is refused of the copy names the book itself.
     """
-    with snapshot(path, like) as copy:
+    with _made(path, like) as (copy, found):
         copy.chmod(copy.stat().st_mode & 0o777 | 0o600)
         try:
-            yield copy
+            yield copy, found
         except Refused as refusal:
             asked = refusal.asked
             if not isinstance(asked, AskedOfFile) or asked.path != fspath(copy):
@@ -76,16 +77,16 @@ def copied(path: StrPath, like: int | None = None) -> Iterator[Path]:
             raise refused_as(replace(refusal.refusal, asked=book)) from None
 
 
-def _copy(book: BookFile, copied: Path, like: int | None) -> None:
-    """Copies a book and its log until they stayed the same ones meanwhile."""
+def _copy(book: BookFile, copied: Path, like: int | None) -> os.stat_result:
+    """Copies a book and its log until they stayed the same ones meanwhile, and says what was made."""
     until, tries = time.monotonic() + _SECONDS, 0
     while True:
         with open_file(book) as file:
             if not (like is None or os.path.sameopenfile(file.fileno(), like)):
                 # another one was put there in this moment
                 raise cannot_open(book, Why.REPLACED)
-            if _is_copied(book, file, copied):
-                return
+            if found := _copied_once(book, file, copied):
+                return found
             why = Why.IN_USE if is_at_path(book, file) else Why.REPLACED
         for path in (copied, Path(f"{copied}-wal")):
             path.unlink(missing_ok=True)
@@ -94,22 +95,24 @@ def _copy(book: BookFile, copied: Path, like: int | None) -> None:
             raise cannot_open(book, why)
 
 
-def _is_copied(book: BookFile, file: BinaryIO, copied: Path) -> bool:
-    """Copies a file and its log, and says whether that wasn't emptied and none of them was replaced."""
+def _copied_once(book: BookFile, file: BinaryIO, copied: Path) -> os.stat_result | None:
+    """Copies a file and its log; none if that was emptied meanwhile, or one of them was replaced."""
     log = book.log
     if no_log := why_no_log(log):
         raise cannot_open(book, no_log)
     before = _state(book, file)
     time.sleep(_TICK)
     if _state(book, file) != before:
-        return False
+        return None
     # so that what is made of the copy is for those whom the book is for
-    with open_made(copied, copy_held(file, log, copied)) as made:
+    found = copy_held(file, log, copied)
+    with open_made(copied, found) as made:
         give_list(made.fileno(), file.fileno())
         give_access(made.fileno(), file.fileno())
     # no two logs have one header
     is_its_log = _header(f"{copied}-wal") == before[-1]
-    return is_its_log and _state(book, file) == before and is_at_path(book, file)
+    is_whole = is_its_log and _state(book, file) == before and is_at_path(book, file)
+    return found if is_whole else None
 
 
 def _state(book: BookFile, file: BinaryIO) -> tuple[int, int, int, bytes]:

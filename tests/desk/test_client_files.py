@@ -3006,7 +3006,7 @@ def test_a_folder_of_ones_own_that_nobody_may_enter_is_not_said_to_be_none(
 LOOKING = """
 import sys
 import braildesk
-from braildesk.snapshot import copied_session
+from braildesk.desk.copied_book import copied_session
 path, to = sys.argv[1:3]
 for attempt in (
     lambda: copied_session(path).__enter__(),

@@ -10,7 +10,7 @@ import tempfile
 import threading
 from collections.abc import Callable
 from concurrent.futures import ThreadPoolExecutor
-from contextlib import closing
+from contextlib import ExitStack, closing
 from pathlib import Path
 from typing import Any, BinaryIO
 
@@ -28,12 +28,14 @@ from braildesk import (
     program,
 )
 from braildesk import snapshot as own
+from braildesk.desk.copied_book import copied_book, copied_session
+from braildesk.desk.manuscripts import read_with_access
 from braildesk.files import contents
 from braildesk.held import copy_held
 from braildesk.opening import LOGS, MAGIC, has_work, take_shared
 from braildesk.protocol.asked import BookFile
 from braildesk.protocol.requests import Correct, Restore, Strike
-from braildesk.snapshot import copied, copied_session, snapshot
+from braildesk.snapshot import copied, snapshot
 
 from scribe.cli.opened_book import without_log
 from scribe.words.export import copy_of_open
@@ -290,6 +292,83 @@ def test_what_is_made_of_a_book_that_is_open_is_for_those_on_its_list_of_access(
 
 
 @NEEDS_ROOT
+@pytest.mark.parametrize("may", [4, 6])
+@pytest.mark.parametrize("is_open", [False, True])
+def test_what_is_made_of_a_book_by_who_is_on_its_list_alone_is_for_its_group(
+    moon: Path, may: int, is_open: bool
+) -> None:
+    shared, office = moon.with_name("shared"), 7
+    book = shared / "moon.braildesk"
+    shared.mkdir()
+    os.chown(shared, -1, office)
+    shared.chmod(0o2777)
+    lead_to(shared)
+    shutil.copyfile(moon, book)
+    listed = (1, 6, NOBODY), (2, may, STRANGER), (4, 6, NOBODY), (16, 6, NOBODY)
+    entries = [struct.pack("<HHI", *each) for each in (*listed, (32, 0, NOBODY))]
+    try:
+        names = b"".join([struct.pack("<I", 2), *entries])
+        os.setxattr(book, "system.posix_acl_access", names)
+    except OSError:
+        pytest.skip("the file system keeps no such lists")
+    words = ["proof {} page.html", "export {} pages", "export {} pages --page 1"]
+
+    def make() -> None:
+        os.umask(0o002)
+        # a book that is open isn't exported
+        for each in words[: 1 if is_open else 3]:
+            assert scribe(*each.format(book).split(), folder=shared).status == 0
+        _, access = read_with_access(book)
+        assert (access.mode, access.group) == (0o660, office)
+
+    with ExitStack() as opened:
+        if is_open:
+            opened.enter_context(Session(book))
+        assert as_stranger(make) == ""
+    made = [each for each in shared.rglob("*.*") if each.suffix in (".html", ".brf")]
+    assert len(made) == (1 if is_open else 3)
+    for each in made:
+        found = each.stat()
+        assert (found.st_uid, found.st_gid) == (STRANGER, office)
+        assert stat.S_IMODE(found.st_mode) == 0o660
+
+
+def test_what_is_put_in_the_place_of_a_copy_gives_what_is_read_of_it_its_own_access(
+    moon: Path,
+) -> None:
+    private = moon.with_name("private")
+    shutil.copyfile(moon, private)
+    moon.chmod(0o664)
+    private.chmod(0o600)
+    with copied_book(moon) as copy:
+        for wanted in (0o664, 0o600):
+            with open(copy.path, "rb") as file, Session(copy.path) as session:
+                its = copy.access_of(file.fileno()), copy.access_by(session)
+            assert [each.mode for each in its] == [wanted, wanted]
+            if private.exists():
+                # as others may do in a temporary folder in which they may write
+                private.replace(copy.path)
+
+
+@NEEDS_ROOT
+def test_what_a_screen_exports_of_an_open_book_is_for_the_group_of_the_book(
+    moon: Path,
+) -> None:
+    shutil.chown(moon, STRANGER, 7)
+    moon.chmod(0o660)
+    lead_to(moon.parent)
+    moon.parent.chmod(0o777)
+
+    def copy() -> None:
+        with Session(moon) as session:
+            with copy_of_open(session, moon, lambda: None) as copied:
+                assert copied is not None
+                assert (copied.access.mode, copied.access.group) == (0o660, 7)
+
+    assert as_stranger(copy) == ""
+
+
+@NEEDS_ROOT
 @pytest.mark.parametrize("has_page", [False, True])
 def test_a_book_is_looked_at_where_a_log_that_its_owner_may_not_read_has_no_work(
     moon: Path, has_page: bool
@@ -458,8 +537,9 @@ def test_no_other_book_is_copied_in_place_of_an_open_one(tmp_path: Path) -> None
     for path in (book, other):
         path.write_bytes(MAGIC + bytes(84))
     with open(book, "rb") as file:
-        with copied(book, file.fileno()) as copy:
+        with copied(book, file.fileno()) as (copy, made):
             assert copy.read_bytes() == book.read_bytes()
+            assert os.path.samestat(copy.stat(), made)
         other.replace(book)
         with pytest.raises(CannotOpen), copied(book, file.fileno()):
             pass
@@ -481,10 +561,14 @@ def test_an_open_book_is_not_exported_from_another_at_its_path_meanwhile(
             moon.rename(other)
             aside.rename(moon)
 
+    with copied_book(moon) as closed:
+        assert closed.access.mode == stat.S_IMODE(moon.stat().st_mode)
     with Session(moon) as session:
         with copy_of_open(session, moon, lambda: None) as copy:
             assert copy is not None
         monkeypatch.setattr(own, "_copy", swapped)
+        with pytest.raises(CannotOpen), copied_book(moon):
+            pass
         with copy_of_open(session, moon, lambda: None) as copy:
             assert copy is None
         other.replace(moon)

@@ -13,7 +13,8 @@ words beside others, ``change`` and ``change_all`` replace words, ``change_note`
 of a command that wasn't answered.
 
 Pages are laid out by ``layout``; ``page_places`` says what stands on which of them, ``volume_plan``
-where volumes should begin, and ``export`` and ``proof`` write them. A manuscript is read by
+where volumes should begin, and ``export`` and ``proof`` write them, for those whom a book is for,
+which ``copied_book`` says of a copy. A manuscript is read by
 ``manuscripts``: a text by ``manuscript``, a document by ``document`` of the package ``documents``
 (with ``kinds``, ``options``, ``markup``, ``pages``, ``quotations``, ``package``, ``sheets``,
 ``page_emphasis``, ``numbers``, ``numbers_of_odt``, ``styles_of_odt``, ``tables_of_odt``,

@@ -12,6 +12,7 @@ from typing import TypeVar
 
 from braildesk import Code, NotFound, Refused, check, export
 from braildesk.desk import Problem
+from braildesk.desk.copied_book import CopiedBook, copied_book
 from braildesk.desk.layout import PageSize
 from braildesk.desk.ranges import PageRange
 from braildesk.desk.whole_file import Access, write_whole
@@ -49,12 +50,12 @@ class Job:
     #: Whether the pages that differ from those of the older file are written beside it too.
     has_changed_pages: bool = False
     #: A copy of the book, where that may only be read.
-    copy: Path | None = None
+    copy: CopiedBook | None = None
 
     @property
     def read_at(self) -> Path:
         """Where the book is read."""
-        return self.copy or self.book
+        return self.copy.path if self.copy else self.book
 
     @property
     def name(self) -> str:
@@ -485,11 +486,8 @@ def _apart(job: Job) -> Iterator[Job]:
     if job.copy is not None or not may_be_replaced(book):
         yield job
         return
-    # imported here, since most books lie in a folder of their own user
-    from braildesk.snapshot import copied
-
     waited(partial(_judge_closed, book), job.wait)
-    with copied(job.book) as copy:
+    with copied_book(job.book) as copy:
         yield replace(job, copy=copy)
 
 
@@ -499,13 +497,17 @@ def _judge_closed(book: BookFile) -> None:
 
 
 def _with_access(job: Job, read: Callable[[], _Found]) -> tuple[_Found, Access]:
-    """What is read of a book, and the access of the file that has its path before and after that."""
+    """What is read of a book, and the access of the file that has its path before and after that.
+
+    If a copy is read, that is the access of the book that was copied.
+    """
     book = BookFile.of(job.read_at)
     for _ in range(TRIES):
         with open_file(book) as file:
             found = read()
             if is_at_path(book, file):
-                return found, Access.of(file.fileno())
+                access_of = job.copy.access_of if job.copy else Access.of
+                return found, access_of(file.fileno())
     raise BookChanges(check(job.read_at), job.folder)
 
 

@@ -241,18 +241,18 @@ def _of_open_book(path: Path, wait: float) -> tuple["Manuscript", Access]:
         if refusal.why not in (Why.IN_USE, *LOOKED_AT_BY_COPY):
             raise
         # imported here, since few books are such
-        from braildesk.snapshot import copied_session
+        from braildesk.desk.copied_book import copied_session
 
-        with copied_session(path) as (session, _):
-            found, access = _of_session(session)
+        with copied_session(path) as (session, copy):
+            found = _of_session(session)
             is_used = refusal.why is Why.IN_USE
             kept_at = session.last_version if is_used else None
-            return replace(found, kept_at=kept_at), access
+            return replace(found, kept_at=kept_at), copy.access_by(session)
     with session:
-        return _of_session(session)
+        return _of_session(session), Access.of_session(session)
 
 
-def _of_session(session: Session) -> tuple["Manuscript", Access]:
+def _of_session(session: Session) -> "Manuscript":
     from braildesk.desk.documents.reading import Manuscript, Part
 
     book = [each for each in session.paragraphs() if not each.struck]
@@ -260,7 +260,7 @@ def _of_session(session: Session) -> tuple["Manuscript", Access]:
         Part(text, 1 if each.style is Style.HEADING else None)
         for each, text in zip(book, prints(session, book))
     )
-    return Manuscript(ManuscriptKind.BOOK, parts), Access.of_session(session)
+    return Manuscript(ManuscriptKind.BOOK, parts)
 
 
 def _texts(passage: Passage) -> Iterator[str]:

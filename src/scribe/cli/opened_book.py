@@ -5,6 +5,7 @@ from argparse import Namespace
 from collections.abc import Callable, Iterator
 from contextlib import contextmanager, nullcontext, suppress
 from pathlib import Path
+from typing import TYPE_CHECKING
 
 from braildesk import (
     CannotOpen,
@@ -31,6 +32,9 @@ from scribe.cli.endings import not_begun
 from scribe.words.console import Console
 from scribe.words.paragraph import quoted
 from scribe.words.status import Interrupted, Status, Stop, stopped_by
+
+if TYPE_CHECKING:
+    from braildesk.desk.copied_book import CopiedBook
 
 
 def answered(
@@ -71,7 +75,8 @@ def _opened(
         finally:
             follow(session, arguments.file)
     else:
-        with looked_at(arguments, console, opened) as (session, arguments.read_at):
+        with looked_at(arguments, console, opened) as (session, copy):
+            arguments.read_at = arguments.file if copy is None else copy.path
             yield session
 
 
@@ -152,11 +157,11 @@ def looked_at(
     arguments: Namespace,
     console: Console,
     opened: Callable[[], Session] | None = None,
-) -> Iterator[tuple[Session, Path]]:
-    """A session with the book, which something opens, and the path at which it is read.
+) -> Iterator[tuple[Session, "CopiedBook | None"]]:
+    """A session with the book, which something opens, or with a copy of it, and that copy.
 
-    While another program has the book open that is a copy, of which the version is said, and where
-    nothing may be written a copy as well.
+    It is a copy while another program has the book open, of which the version is said, and where
+    nothing may be written.
     """
     try:
         session = opened() if opened else open_session(arguments, console)
@@ -164,15 +169,15 @@ def looked_at(
         if refusal.why not in (Why.IN_USE, *LOOKED_AT_BY_COPY):
             raise
         # imported here, since few commands meet a book that they can't open
-        from braildesk.snapshot import copied_session
+        from braildesk.desk.copied_book import copied_session
 
-        with copied_session(arguments.file) as (session, copied):
+        with copied_session(arguments.file) as (session, copy):
             if refusal.why is Why.IN_USE:
                 console.say(as_kept(arguments.file, session.last_version))
-            yield session, copied
+            yield session, copy
         return
     with session:
-        yield session, arguments.file
+        yield session, None
 
 
 def as_kept(book: Path, version: int) -> str:

@@ -8,6 +8,7 @@ from typing import Any
 
 from braildesk import DeskError, Displaced
 from braildesk.desk import USUAL_WAIT
+from braildesk.desk.copied_book import CopiedBook
 from braildesk.desk.earlier import Undecided
 from braildesk.desk.export import Job
 from braildesk.desk.import_text import Import
@@ -55,7 +56,7 @@ def done_in_background(
     report: Callable[[str], None],
     check: Callable[[], None],
     held: HeldFile | None = None,
-    copy: Path | None = None,
+    copy: CopiedBook | None = None,
 ) -> ActionResult:
     """Does an action as the command of the same name does, until the check has it end.
 

@@ -11,6 +11,7 @@ from typing import Any
 
 from braildesk import After, DeskError, Displaced, Lost
 from braildesk.desk import USUAL_WAIT
+from braildesk.desk.copied_book import CopiedBook
 from braildesk.desk.earlier import Undecided, Way
 from braildesk.desk.export import Job
 from braildesk.desk.import_text import Import
@@ -100,7 +101,7 @@ class Files:
         self._folder = folder
         job = Job(desk.path, folder, desk.page_size, USUAL_WAIT)
 
-        def act(console: Console, copy: Path | None = None) -> int:
+        def act(console: Console, copy: CopiedBook | None = None) -> int:
             export_in_words(replace(job, copy=copy), console)
             return 0
 

@@ -14,6 +14,7 @@ from braildesk import (
     Session,
     check,
 )
+from braildesk.desk.copied_book import CopiedBook, copied_book
 from braildesk.desk.export import (
     BookChanges,
     Differences,
@@ -48,24 +49,21 @@ def may_be_of_other(path: Path, lost: Lost) -> tuple[str, ...]:
 @contextmanager
 def copy_of_open(
     session: Session, path: Path, judge: Callable[[], None]
-) -> Iterator[Path | None]:
+) -> Iterator[CopiedBook | None]:
     """A copy of a book that a session has open, to be exported from; none where none can be made.
 
     Nor is there one if that is stopped. Raises `Lost` where the session has ended, or another file is at the path.
     """
-    # imported here, since a command of the shell needs it for few books
-    from braildesk.snapshot import copied
-
     copy = made = None
     with ExitStack() as stack:
         try:
             with suppress(CannotOpen):
                 # where another one stands at the path, it is seen below whether it does so still
-                made = stack.enter_context(copied(path, session.fileno()))
+                made = stack.enter_context(copied_book(path, session.fileno()))
             version = session.version()
             session.tables()
             # it has all of the book, where its log wasn't taken away
-            if made is not None and check(made, while_waiting=judge) == version:
+            if made is not None and check(made.path, while_waiting=judge) == version:
                 copy = made
         except Lost:
             raise

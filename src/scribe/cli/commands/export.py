@@ -5,6 +5,7 @@ from collections.abc import Sequence
 from dataclasses import replace
 
 from braildesk import CannotOpen
+from braildesk.desk.copied_book import copied_book
 from braildesk.desk.export import Job
 from braildesk.desk.ranges import PageRange
 from braildesk.protocol.sentences import LOOKED_AT_BY_COPY
@@ -85,10 +86,7 @@ def run(arguments: Namespace, console: Console) -> Status:
     except CannotOpen as refusal:
         if refusal.why not in LOOKED_AT_BY_COPY:
             raise
-    # imported here, since few books may only be read
-    from braildesk.snapshot import copied
-
-    with copied(job.book) as copy:
+    with copied_book(job.book) as copy:
         return _exported(replace(job, copy=copy), volume, wanted, console)
 
 

@@ -98,10 +98,10 @@ def _written(
         has_print_first=arguments.print_first,
         has_spoken_cells=arguments.speak_cells,
     )
-    with looked_at(arguments, console) as (session, _):
+    with looked_at(arguments, console) as (session, copy):
         found = list(proof_pages(session, page_size))
         left = open_marks(session) - sum(page.open_marks for page in found)
-        access = Access.of_session(session)
+        access = copy.access_by(session) if copy else Access.of_session(session)
     pages = list(_wanted(found, arguments.marks_only))
     others = [elsewhere(left)] if left else []
     if not pages:
