@@ -602,6 +602,22 @@ def test_another_book_is_not_shown_with_what_was_kept_in_the_one_before(
     assert "was corrected" not in sat.state.message
 
 
+def test_the_page_is_that_of_the_file_that_is_at_the_path_now(
+    moon: Path, sit: Sit
+) -> None:
+    other = another(moon, 0)
+    with Session(other) as session:
+        session.correct(1, 0, 0, "Mars " * 30)
+    sat = sit(moon)
+    sat.press("b", "down", "p")
+    assert "Paragraph 2, character 1: volume 1, page 1, line 2" in sat.lines[1]
+    sat.press("escape")
+    other.rename(moon)
+    sat.press("b", "enter", "p")
+    assert sat.state.version == 8
+    assert "Paragraph 2, character 1: volume 1, page 1, line 7" in sat.lines[1]
+
+
 def test_an_earlier_copy_that_is_there_after_a_session_ended_has_nothing_kept(
     moon: Path, sit: Sit
 ) -> None:

@@ -533,6 +533,8 @@ class Desk:
             raise
         self._session = session
         self._file = identity_of(self.path)
+        # another file may be at the same version
+        self._layouts = pagelook.Layouts()
         self.tables.read(found)
 
     def _opened_by_key(self, state: State) -> State:
