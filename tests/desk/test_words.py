@@ -285,6 +285,27 @@ def test_a_text_of_an_option_that_is_taken_for_one_is_said_to_be_joined_to_it(
         assert "expected one argument" in ran.said and "joined" not in ran.said
 
 
+@pytest.mark.parametrize("name", ["anna b", "", "x" * 41])
+@pytest.mark.parametrize(
+    "words", ["change m 1 a b", "change-all m a b", "edit m", "talk m", "window m"]
+)
+def test_a_name_that_no_proofreader_has_is_refused_before_anything_is_done(
+    words: str, name: str, tmp_path: Path
+) -> None:
+    ran = scribe(*words.split(), "--by", name, folder=tmp_path)
+    assert (ran.status, ran.said.splitlines()[0]) == (
+        1,
+        f"Argument --by: “{name}” can't be the name of a proofreader. Nothing was changed. A name"
+        " has 1 to 40 characters, none of them a blank.",
+    )
+
+
+def test_a_name_that_no_proofreader_has_is_refused_at_a_prompt_too(book: Path) -> None:
+    given = "change 1 --by 'anna b'\n"
+    ran = scribe("talk", book, folder=book.parent, given=given)
+    assert ran.said.startswith("Argument --by: “anna b” can't be the name of a")
+
+
 def test_a_word_that_is_nearly_a_command_is_guessed(tmp_path: Path) -> None:
     ran = scribe("unod", "m", "1", folder=tmp_path)
     assert ran.status == 1

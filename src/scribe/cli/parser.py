@@ -327,6 +327,7 @@ def argument(read: Callable[[str], Value]) -> Callable[[str], Value]:
 number = argument(typed.number)
 text = argument(typed.text)
 words = argument(typed.words)
+proofreader = argument(typed.proofreader)
 after = argument(typed.after)
 some_path = argument(typed.some_path)
 file_path = argument(typed.file_path)

@@ -77,6 +77,20 @@ def words(word: str) -> str:
     return text(word)
 
 
+def proofreader(word: str) -> str:
+    """The name of a proofreader, as a book takes it."""
+    name = text(word)
+    if 1 <= len(name) <= limits.WHO_CHARACTERS and " " not in name:
+        return name
+    # imported here, since such a name is rarely typed
+    from braildesk.protocol.codes import Code
+    from braildesk.protocol.requests import CorrectBy
+    from braildesk.refusals import refused
+
+    asked = CorrectBy(0, 0, 0, "", who=name)
+    raise InvalidInput(refused(Code.BAD_PROOFREADER, asked).sentence)
+
+
 def after(word: str) -> "After":
     """Where a paragraph is put: front, end, or the number of the one before it."""
     if word == "front":

@@ -10,7 +10,7 @@ from braildesk.protocol.requests import Correct
 
 from scribe.cli.book_command import BookCommand, add_nth
 from scribe.cli.opened_book import said_where_stopped
-from scribe.cli.parser import Parser, add_paragraph, add_width, argument
+from scribe.cli.parser import Parser, add_paragraph, add_width, proofreader
 from scribe.words.changes import change_lines, kept_of
 from scribe.words.console import Console
 from scribe.words.typed import text, words
@@ -40,7 +40,7 @@ def add_words(parser: Parser) -> None:
     parser.add_argument(
         "--by",
         metavar="WHO",
-        type=argument(text),
+        type=proofreader,
         help="the proofreader, kept in the history",
     )
     add_width(parser)

@@ -16,7 +16,7 @@ from braildesk.desk.drafts import Drafts, NotKept
 from scribe.cli.book_command import BookCommand
 from scribe.cli.own_modules import hold_modules
 from scribe.cli.opened_book import said_where_stopped
-from scribe.cli.parser import Parser, add_ranges, add_width, argument
+from scribe.cli.parser import Parser, add_ranges, add_width, proofreader
 from scribe.prompt.conversation import Ended, EndedAmong, NoAnswer
 from scribe.prompt.typed_lines import GivenUp, Lines, PipedLines, TypedLines, are_typed
 from scribe.words.change_all import (
@@ -92,7 +92,7 @@ def add_words(parser: Parser) -> None:
     parser.add_argument(
         "--by",
         metavar="WHO",
-        type=argument(words),
+        type=proofreader,
         help="the proofreader, kept in the history",
     )
     add_width(parser)

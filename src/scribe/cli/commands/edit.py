@@ -16,7 +16,7 @@ from braildesk.text.wrapping import Offered
 from scribe.cli.endings import not_begun
 from scribe.cli.own_modules import hold_modules
 from scribe.cli.page_size import add_page_size, page_size_of
-from scribe.cli.parser import Subparsers, add_file, command_parser, words
+from scribe.cli.parser import Subparsers, add_file, command_parser, proofreader
 from scribe.prompt.typed_lines import are_typed
 from scribe.words import encoding
 from scribe.words.aftermath import tell_end
@@ -45,7 +45,7 @@ def add_parser(subparsers: Subparsers) -> ArgumentParser:
     parser.add_argument(
         "--by",
         metavar="WHO",
-        type=words,
+        type=proofreader,
         help="the proofreader, whose name corrections keep",
     )
     add_page_size(parser)

@@ -18,8 +18,8 @@ from scribe.cli.parser import (
     add_cells,
     add_file,
     command_parser,
+    proofreader,
     width,
-    words,
 )
 from scribe.prompt.broken_off import BrokenOff
 from scribe.prompt.conversation import Conversation, Ended, EndedAmong, request_line
@@ -50,7 +50,7 @@ def add_parser(subparsers: Subparsers) -> ArgumentParser:
     parser.add_argument(
         "--by",
         metavar="WHO",
-        type=words,
+        type=proofreader,
         help="the proofreader whose name the corrections of change keep",
     )
     add_cells(parser)

@@ -7,7 +7,7 @@ from typing import TYPE_CHECKING
 from scribe.cli.endings import not_begun, say_last
 from scribe.cli.own_modules import hold_modules
 from scribe.cli.page_size import add_page_size, page_size_of
-from scribe.cli.parser import Subparsers, add_file, command_parser, words
+from scribe.cli.parser import Subparsers, add_file, command_parser, proofreader
 from scribe.words.aftermath import tell_end
 from scribe.words.console import Console
 from scribe.words.status import Status, Stop, not_loaded
@@ -35,7 +35,7 @@ def add_parser(subparsers: Subparsers) -> ArgumentParser:
     parser.add_argument(
         "--by",
         metavar="WHO",
-        type=words,
+        type=proofreader,
         help="the proofreader, whose name corrections keep",
     )
     add_page_size(parser)
