@@ -32,7 +32,7 @@ def test_each_command_takes_a_size_and_has_the_same_usual_one(name: str) -> None
         ("--width", "61", "Argument --width: 61 is not between 10 and 60."),
         ("--lines", "4", "Argument --lines: 4 is not between 5 and 40."),
         ("--lines", "41", "Argument --lines: 41 is not between 5 and 40."),
-        ("--lines", "x", "Argument --lines: 'x' is not a number."),
+        ("--lines", "x", "Argument --lines: “x” is not a number."),
     ],
 )
 def test_each_command_refuses_a_size_by_the_same_sentence(

@@ -261,7 +261,7 @@ def test_a_blank_at_the_end_or_the_front_of_a_line_is_taken(talk: Prompted) -> N
         ),
         (
             "change x",
-            "Argument PARA: 'x' is not a number. It is typed as: change PARA OLD NEW [--nth N]"
+            "Argument PARA: “x” is not a number. It is typed as: change PARA OLD NEW [--nth N]"
             " [--by WHO] [--width N]",
         ),
         ("find don't", "“don't” isn't in the book."),
@@ -454,7 +454,7 @@ def test_change_means_the_paragraph_of_the_mark_in_hand_if_it_names_none(
     talk: Prompted,
 ) -> None:
     # before a mark is shown no paragraph is meant
-    assert talk.type("change far near")[0] == "Argument PARA: 'far' is not a number."
+    assert talk.type("change far near")[0] == "Argument PARA: “far” is not a number."
     talk.type("next")
     assert talk.type("change far near")[:2] == [
         "Paragraph 1: The moon is [near] away.",
@@ -474,7 +474,7 @@ def test_change_means_the_paragraph_of_the_mark_in_hand_if_it_names_none(
     ]
     assert talk.type("change 2006 far near") == missing
     talk.type("resolve")
-    assert talk.type("change near far")[0] == "Argument PARA: 'near' is not a number."
+    assert talk.type("change near far")[0] == "Argument PARA: “near” is not a number."
 
 
 def test_paragraphs_are_shown_and_words_found(talk: Prompted) -> None:
@@ -515,11 +515,11 @@ def test_a_command_at_a_short_question_is_told_no_way_out_of_what_is_given_up(
     talk.type("short")
     talk.type("change", "paragraph: ")
     assert talk.type("three", "paragraph: ") == [
-        "'three' is not a number. An empty line",
+        "“three” is not a number. An empty line",
         "gives up.",
     ]
     assert talk.type("next") == [
-        "'next' is not a number.",
+        "“next” is not a number.",
         "Given up. Nothing was changed.",
     ]
 

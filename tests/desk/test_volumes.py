@@ -116,7 +116,7 @@ def test_what_was_set_is_said_before_the_volumes_are_shown(chapters: Path) -> No
             1,
             "Argument --set: say by --pages how many pages a volume has at most.",
         ),
-        (("--pages", "x"), 1, "Argument --pages: 'x' is not a number."),
+        (("--pages", "x"), 1, "Argument --pages: “x” is not a number."),
     ],
 )
 def test_what_can_not_be_done_is_said(

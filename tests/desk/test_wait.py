@@ -217,7 +217,7 @@ def test_seconds_are_numbers() -> None:
     console = Console(io.BytesIO(), io.StringIO(), errors := io.StringIO())
     assert run_words(["show", "moon", "--wait", "soon"], console) == 1
     assert errors.getvalue().startswith(
-        "Argument --wait: 'soon' is no number of seconds."
+        "Argument --wait: “soon” is no number of seconds."
     )
 
 

@@ -156,11 +156,11 @@ def test_the_version_is_shown(tmp_path: Path) -> None:
     [
         ([], "The following arguments are required: COMMAND."),
         (["undo"], "The following arguments are required: FILE, PARA."),
-        (["undo", "m", "x"], "Argument PARA: 'x' is not a number."),
+        (["undo", "m", "x"], "Argument PARA: “x” is not a number."),
         *(
             (
                 ["undo", "m", word],
-                f"Argument PARA: {word!r} is not a number in the digits 0 to 9 alone.",
+                f"Argument PARA: “{word}” is not a number in the digits 0 to 9 alone.",
             )
             for word in ("-3", "+1", "1.5", "1,000", "٣")
         ),
@@ -175,11 +175,11 @@ def test_the_version_is_shown(tmp_path: Path) -> None:
         (["export", "m", "o", "--lin", "9"], "Unrecognized arguments: --lin 9."),
         (
             ["volume", "m", "1", "yes"],
-            "Argument on|off: 'yes' is neither on nor off.",
+            "Argument on|off: “yes” is neither on nor off.",
         ),
         (
             ["move", "m", "1", "last"],
-            "Argument AFTER: 'last' is none of front, end and the number of a paragraph.",
+            "Argument AFTER: “last” is none of front, end and the number of a paragraph.",
         ),
     ],
 )
@@ -254,7 +254,7 @@ def test_two_hyphens_are_words_at_a_prompt(book: Path) -> None:
     given = "change 1 -- -- ,\nvolume 1 -- --\n"
     ran = scribe("talk", book, folder=book.parent, given=given)
     assert "Paragraph 1: Two men [,] one." in ran.shown.splitlines()
-    assert "Argument on|off: '--' is neither on nor off." in ran.said.splitlines()
+    assert "Argument on|off: “--” is neither on nor off." in ran.said.splitlines()
 
 
 def test_a_text_that_is_taken_for_an_option_is_said_to_come_after_two_hyphens(

@@ -11,6 +11,7 @@ from typing import TYPE_CHECKING, Any, NoReturn, TypeVar, cast
 
 from braildesk.desk import USUAL_WAIT
 from braildesk.text.cells import Notation
+from braildesk.text.characters import shortened
 from braildesk.text.wrapping import wrap
 from braildesk.version import version
 
@@ -348,7 +349,7 @@ def counted(things: str) -> Callable[[str], int]:
 def seconds(word: str) -> float:
     """The seconds that a word is: decimal digits, with a point among them or not."""
     if not (word.isascii() and word.replace(".", "", 1).isdigit() and len(word) <= 8):
-        raise argparse.ArgumentTypeError(f"{word!r} is no number of seconds")
+        raise argparse.ArgumentTypeError(f"{shortened(word)} is no number of seconds")
     return float(word)
 
 

@@ -7,7 +7,7 @@ from pathlib import Path
 from typing import TYPE_CHECKING, Self
 
 from braildesk.text import limits
-from braildesk.text.characters import control_refused
+from braildesk.text.characters import control_refused, shortened
 
 if TYPE_CHECKING:
     from braildesk.desk.ranges import PageRange, ParagraphRange
@@ -53,7 +53,7 @@ def number(word: str) -> int:
     if not (word.isascii() and word.isdigit()):
         # a sign or a point is no digit, nor are the digits of other scripts
         digits = " in the digits 0 to 9 alone" if _NUMERIC.fullmatch(word) else ""
-        raise InvalidInput(f"{word!r} is not a number{digits}")
+        raise InvalidInput(f"{shortened(word)} is not a number{digits}")
     digits = word.lstrip("0")
     if len(digits) > _DIGITS or (found := int(digits or "0")) > limits.NUMBER:
         raise InvalidInput(f"{word} is too large a number")
@@ -101,14 +101,14 @@ def after(word: str) -> "After":
         return number(word)
     except InvalidInput:
         raise InvalidInput(
-            f"{word!r} is none of front, end and the number of a paragraph"
+            f"{shortened(word)} is none of front, end and the number of a paragraph"
         ) from None
 
 
 def switch(word: str) -> bool:
     """Whether something is on."""
     if word not in ("on", "off"):
-        raise InvalidInput(f"{word!r} is neither on nor off")
+        raise InvalidInput(f"{shortened(word)} is neither on nor off")
     return word == "on"
 
 
@@ -132,7 +132,9 @@ def _ranges(word: str, what: str) -> Iterator[_Ends]:
     for part in word.split(","):
         match = _RANGE.fullmatch(part)
         if match is None or not (match[1] or match[3]):
-            raise InvalidInput(f"{part!r} is no {what} and no range such as 3-9")
+            raise InvalidInput(
+                f"{shortened(part)} is no {what} and no range such as 3-9"
+            )
         first = number(match[1]) if match[1] else None
         last = number(match[3]) if match[3] else None
         yield first, last if match[2] else first

@@ -12,6 +12,7 @@ from braildesk.desk.whole_file import (
     judge_place,
     write_whole,
 )
+from braildesk.text.characters import shortened
 from braildesk.workshop import MayNotLast
 
 from scribe.cli.opened_book import looked_at
@@ -62,7 +63,7 @@ def add_parser(subparsers: Subparsers) -> ArgumentParser:
 def _language(word: str) -> str:
     if not _LANGUAGE.fullmatch(word):
         raise ArgumentTypeError(
-            f"{word!r} is no code of a language, as en, de or pt-BR are"
+            f"{shortened(word)} is no code of a language, as en, de or pt-BR are"
         )
     return word
 
