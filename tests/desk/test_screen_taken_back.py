@@ -211,6 +211,28 @@ def test_of_a_mark_in_hand_that_is_elsewhere_it_is_not_said_that_it_is_here(
     )
 
 
+@pytest.mark.parametrize(
+    "pane, there",
+    [
+        ("", "“f” ⠋, character 13, cell 14"),
+        ("tab", "⠋ “f”, cell 14, character 13"),
+    ],
+)
+def test_the_cursor_is_on_the_words_of_a_mark_that_is_put_again_in_another_paragraph(
+    moon: Path, sit: Sit, pane: str, there: str
+) -> None:
+    with Session(moon) as session:
+        session.add_mark(1, 13, 3, "how far?")
+    sat = sit(moon)
+    sat.press("end", "n", "n", "r", "c-end", *pane.split(), "u")
+    assert sat.state.message == (
+        "Taken back: mark 2 was resolved. It stays resolved, and a new mark stands in its"
+        " place."
+    )
+    assert sat.state.mark_in_hand and sat.state.mark_in_hand.id == 3
+    assert there in sat.lines
+
+
 def test_a_mark_is_taken_back_by_resolving_it_and_that_by_a_new_one(
     moon: Path, sit: Sit
 ) -> None:

@@ -90,7 +90,12 @@ from scribe.screen.at_opening import (
 from scribe.screen.background import ActionResult, done_in_background
 from scribe.screen.drawn import refreshed
 from scribe.screen.field import Field, Purpose
-from scribe.screen.in_hand import asked_for_note, left_here, with_mark_in_hand
+from scribe.screen.in_hand import (
+    asked_for_note,
+    at_words_of,
+    left_here,
+    with_mark_in_hand,
+)
 from scribe.screen.lines_typed import LinesTyped
 from scribe.screen.state import (
     Pages,
@@ -979,11 +984,15 @@ class Desk:
     def _taking_back(self, state: State, action: TakeBack) -> State:
         """Takes back what a key last did; what takes many commands is done beside the screen."""
         *earlier, deed = state.deeds
+        first = deed.back[0]
         if deed.paragraph is not None:
-            state = refreshed(self._session, at_paragraph(state, deed.paragraph))
+            found = at_paragraph(state, deed.paragraph)
+            if found.chosen != state.chosen and isinstance(first, requests.Mark):
+                found = at_words_of(self._session, found, first)
+            state = refreshed(self._session, found)
         if len(deed.back) > 1:
             return replace(state, away=action, message="Please wait.")
-        command = replace(deed.back[0], expect=state.version)
+        command = replace(first, expect=state.version)
         try:
             state = self._sent(state, command)
         except _Interrupted as interrupted:

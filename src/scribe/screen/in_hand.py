@@ -5,13 +5,13 @@ Before a new one is put, its note is asked for, and the words are said on which 
 
 from dataclasses import replace
 
-from braildesk import Mark, Session
+from braildesk import Mark, Session, requests
 from braildesk.desk.places import words_of
 from braildesk.desk.search import Found, Spot
 from braildesk.text.spans import Span
 
 from scribe.screen.field import Purpose
-from scribe.screen.state import InHand, State, prompted
+from scribe.screen.state import InHand, Pane, State, prompted
 from scribe.words.paragraph import marked_words as where
 from scribe.words.paragraph import quoted
 
@@ -38,6 +38,16 @@ def at_mark(state: State, found: Found, is_back: bool, since: Spot) -> State:
     if has_moved or spot.place != place:
         return state
     return state.saying(f"Mark {spot.mark} begins here.")
+
+
+def at_words_of(session: Session, state: State, mark: requests.Mark) -> State:
+    """The state with the cursor on the words, or on the cells, on which a mark is about to be put."""
+    cells = Span(mark.cell, mark.cell + mark.count)
+    place = mark.cell
+    if state.pane is Pane.PRINT:
+        words = marked_words(session, mark.paragraph, cells)
+        place = words.start if words is not None else 0
+    return state.at(state.chosen, place)
 
 
 def _way(since: Spot, is_back: bool) -> str:
