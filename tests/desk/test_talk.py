@@ -986,6 +986,28 @@ def test_a_line_that_came_back_and_was_answered_comes_back_no_more(
     assert talk.end("quit\r").status == 0
 
 
+def test_a_line_comes_back_until_it_is_answered_itself_and_not_one_that_begins_with_it(
+    moon: Path,
+) -> None:
+    for keys in ("strike 1", "type end en It is"):
+        break_off(moon, keys, signal.SIGTERM)
+    talk = talk_about(moon)
+    talk.type("type end en It is far.")
+    talk.keys("strike 12")
+    talk.wait_for("strike 12")
+    talk.give_up()
+    assert talk.end("quit\r").status == 0
+    talk = talk_about(moon)
+    assert talk.greeting[1:] == [COMES_BACK, "strike 1", "type end en It is"]
+    # nor is it once it came back, was refused as it was typed on, and was typed on anew
+    talk.type("\x1b[A ☃")
+    talk.type("\x1b[A\x7ffar.")
+    assert talk.end("quit\r").status == 0
+    talk = talk_about(moon)
+    assert talk.greeting[1:] == [COMES_BACK, "strike 1"]
+    assert talk.end("quit\r").status == 0
+
+
 def test_a_short_answer_that_was_broken_off_comes_back_with_its_command(
     moon: Path,
 ) -> None:

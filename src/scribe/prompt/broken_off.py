@@ -66,19 +66,21 @@ class BrokenOff(AbstractContextManager["BrokenOff"]):
             self._keep((*others[-MOST_LINES:], *new))
 
     def answered(self) -> None:
-        """Keeps a line no more that is among those just answered, or was typed on to one of them."""
+        """Keeps a line no more that is among those just answered, or came back and was typed on to one."""
         self._leave(self._conversation.typed)
 
     def given_up(self) -> None:
-        """Keeps a line no more that is among those just given up, or was typed on to one of them."""
+        """Keeps a line no more that is among those just given up, or came back and was typed on to one."""
         if self._lines is not None:
             self._leave([*self._conversation.typed, self._lines.given_up])
 
     def _leave(self, typed: Sequence[str]) -> None:
+        came_back = self._lines.brought_back if self._lines is not None else ()
         left = tuple(
             each
             for each in self._before
-            if not any(line.startswith(each) for line in typed)
+            if each not in typed
+            and not (each in came_back and any(its.startswith(each) for its in typed))
         )
         self._conversation.typed.clear()
         if left != self._before:

@@ -136,6 +136,8 @@ class TypedLines(AbstractContextManager["TypedLines"]):
         self.broken_off = ""
         #: What was typed of the line that was given up last.
         self.given_up = ""
+        #: The lines that the arrow keys brought back, of which others were made.
+        self.brought_back: set[str] = set()
         # what was typed of the line a moment ago, and whether that is the line which is being typed
         self._noted, self._is_begun = "", False
 
@@ -230,6 +232,17 @@ class TypedLines(AbstractContextManager["TypedLines"]):
             self._prompt = None
             signal.signal(signal.SIGINT, _nothing)
             self._set(echoes=False)
+            self._note_brought_back()
+
+    def _note_brought_back(self) -> None:
+        """Notes the line that the arrow keys brought back, of which the one just typed was made."""
+        import ctypes  # which few commands need
+
+        # a library that isn't readline itself may not say it
+        with suppress(AttributeError, OSError):
+            place = ctypes.CDLL(self._readline.__file__).where_history()
+            line = self._readline.get_history_item(place + 1)
+            self.brought_back.update([line] if line else [])
 
     def _stop(self, number: int, frame: FrameType | None) -> None:
         """What Ctrl-Z does: the shell has the terminal, which is here as it was before once it is back.
