@@ -183,12 +183,15 @@ def why_unwritten(path: str, room: int | None) -> Why:
 
 
 def _why(asked: AskedOfFile) -> Why:
+    # what is at the path by now may be in a folder that was renamed
+    path = asked.led_to or asked.path
     try:
+        os.stat(path)
         return _why_not_regular(asked.path) or _why_regular(asked)
     except (FileNotFoundError, NotADirectoryError):
         if isinstance(asked, NewBook):
             return _why_not_made(asked.path)
-        return Why.REPLACED if _comes_back(asked.path) else Why.MISSING
+        return Why.REPLACED if _comes_back(path) else Why.MISSING
     except PermissionError:
         return Why.DENIED
     except (OSError, ValueError):

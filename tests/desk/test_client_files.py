@@ -45,7 +45,7 @@ from braildesk import (
 from braildesk.desk.whole_file import Access, write_whole
 from braildesk.files import contents, read_version
 from braildesk.held import fit_log
-from braildesk.protocol.asked import BookFile
+from braildesk.protocol.asked import BookFile, seen
 from braildesk.refusals import cannot_open
 from braildesk.rescue import says_nothing
 from braildesk.snapshot import snapshot
@@ -2069,6 +2069,25 @@ def test_a_file_that_is_away_for_a_moment_is_not_said_to_be_none(
     assert opening.why(BookFile(str(path))) is Why.MISSING
     monkeypatch.setattr(time, "sleep", moved)
     assert opening.why(BookFile(str(path))) is Why.REPLACED
+
+
+@pytest.mark.parametrize("is_made_anew", [False, True])
+def test_a_book_whose_folder_is_not_where_it_was_is_said_to_be_there_no_more(
+    book: Path, tmp_path: Path, monkeypatch: pytest.MonkeyPatch, is_made_anew: bool
+) -> None:
+    folder = tmp_path / "folder"
+    folder.mkdir()
+    shutil.copy(book, folder / "book")
+    monkeypatch.chdir(folder)
+    path = seen("book")
+    folder.rename(tmp_path / "other")
+    if is_made_anew:
+        folder.mkdir()
+    with pytest.raises(CannotOpen) as refused:
+        Session(path)
+    assert refused.value.why is Why.MISSING
+    said = f"There is no file “{folder / 'book'}”. Check that the path is right."
+    assert refused.value.sentence == said
 
 
 def test_a_link_put_in_place_of_an_empty_book_has_its_table_put_into_no_other(

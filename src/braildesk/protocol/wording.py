@@ -32,6 +32,7 @@ from braildesk.protocol.sentences import (
     STRUCK_ALREADY,
     UNOPENED,
     UNREAD,
+    Why,
     remedy,
 )
 from braildesk.text import limits
@@ -214,6 +215,9 @@ class _Fields:
             case Pages(path=path) | TableFile(path=path):
                 return shortened(path, len(path))
             case BookFile(path=path) | NewBook(path=path):
+                if self._refusal.why is Why.MISSING and os.path.exists(path):
+                    # it leads elsewhere by now
+                    path = self._asked.real
                 return shortened(path, len(path))
         return "This file"
 
