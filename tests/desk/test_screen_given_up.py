@@ -157,6 +157,18 @@ def test_one_is_back_where_one_was_if_what_was_given_up_stays_so(
     assert "New paragraph after paragraph 3" in "\n".join(sat.lines)
 
 
+def test_enter_that_came_at_once_ends_no_line_that_was_given_up(
+    moon: Path, sit: Sit
+) -> None:
+    sat = sit(moon)
+    sat.press("o")
+    sat.state = sat.desk.paste(sat.state, "It rose\n", True)
+    assert sat.state.message.endswith(" what is typed on is another line.")
+    sat.press("escape", "U", "y", *" far.")
+    assert sat.state.question is None
+    assert sat.state.typed and sat.state.typed.text == "It rose far."
+
+
 def test_what_was_given_up_comes_back_when_the_book_is_opened_again(
     moon: Path, sit: Sit
 ) -> None:

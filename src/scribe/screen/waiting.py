@@ -93,6 +93,8 @@ def _given_up(
     unsent: Unsent, state: State, is_typed_last: Callable[[str], bool]
 ) -> State:
     """Gives up lines that are asked about, what is typed, or the text that waits."""
+    # what is typed on, or brought back and typed on, is no other line any more
+    state = replace(state, ended=None)
     asked = state.question
     if asked is not None and asked.draft is not None:
         state = replace(state, typed=asked.draft, question=None)
