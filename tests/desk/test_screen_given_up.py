@@ -157,6 +157,19 @@ def test_one_is_back_where_one_was_if_what_was_given_up_stays_so(
     assert "New paragraph after paragraph 3" in "\n".join(sat.lines)
 
 
+@pytest.mark.parametrize("keys", ["enter O h , escape", "o I t escape"])
+@pytest.mark.parametrize("pane", ["", "tab"])
+def test_the_cursor_stays_in_its_paragraph_where_what_came_back_is_given_up_again(
+    moon: Path, sit: Sit, keys: str, pane: str
+) -> None:
+    sat = sit(moon)
+    sat.press(*keys.split(), *pane.split(), "right", "right")
+    before = sat.state.chosen, sat.state.place, sat.state.pane
+    sat.press("U", "y", "escape")
+    assert sat.state.typed is None
+    assert (sat.state.chosen, sat.state.place, sat.state.pane) == before
+
+
 def test_enter_that_came_at_once_ends_no_line_that_was_given_up(
     moon: Path, sit: Sit
 ) -> None:

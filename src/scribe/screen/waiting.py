@@ -195,7 +195,8 @@ def asked_about(
     places = [n for n, each in enumerate(state.book) if each.id == saved.paragraph]
     changed, before = "" if places else without_paragraph(saved), None
     if places:
-        state = state.at(places[0])
+        # in the paragraph of the cursor it stays where it is
+        state = state.at(places[0], state.place * (places[0] == state.chosen))
         now = session.print_of(state.book[places[0]].id)
         changed = changed_since(saved, now)
         before = saved.before if changed and saved.aim is Aim.EDIT else None
