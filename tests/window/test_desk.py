@@ -981,9 +981,11 @@ def test_what_is_done_just_as_its_waiting_ends_is_no_failure(
             return found
 
     monkeypatch.setattr("scribe.window.worker.Future", Late)
-    worker = Worker(Held())
+    held = Held()
+    worker = Worker(held)
     assert worker.result(lambda: 1) == 1
     worker.stop()
+    held.stop()
 
 
 def test_sizes_and_fonts_are_remembered(desk: Desk, moon: Path) -> None:

@@ -541,6 +541,7 @@ def test_what_is_obeyed_is_kept_no_more_while_the_next_key_waits(
     assert wait(application, 60, lambda: window.obeyed == "abcxd")
     assert window.kept[:4] == ["a", "ab", "abc", "abcx"]
     assert window.kept[4:] == ["bcx", "bcxd", "cxd", "xd", "d", ""]
+    window.held.stop()
 
 
 def test_a_dialog_that_opens_while_something_is_waited_for_can_be_answered(
@@ -555,3 +556,4 @@ def test_a_dialog_that_opens_while_something_is_waited_for_can_be_answered(
         assert window.obeyed == "b"
         dialog.hide()
     assert wait(application, 60, lambda: window.obeyed == "bc")
+    window.held.stop()

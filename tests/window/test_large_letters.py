@@ -159,7 +159,8 @@ def test_the_names_of_the_columns_are_whole(window: Window) -> None:
 
 
 def _progress(over: QWidget) -> None:
-    worker, ended = Worker(Held()), Event()
+    held, ended = Held(), Event()
+    worker = Worker(held)
 
     def act(say: dialogs.Say, is_stopped: dialogs.IsStopped) -> None:
         say(f"1,000 of 3,000 paragraphs are laid out. {QUOTED} {QUOTED}")
@@ -168,6 +169,7 @@ def _progress(over: QWidget) -> None:
 
     dialogs.long(over, worker, "Export", act)
     worker.stop()
+    held.stop()
 
 
 ASKED: dict[str, Ask] = {
