@@ -4,6 +4,7 @@ import os
 import sys
 import time
 from collections.abc import Callable, Iterator, Sequence
+from functools import partial
 from pathlib import Path
 from tempfile import TemporaryDirectory
 from typing import Any
@@ -169,12 +170,18 @@ def given(monkeypatch: pytest.MonkeyPatch) -> Answers:
     monkeypatch.setattr(dialogs, "choice", choice)
     monkeypatch.setattr(dialogs, "line_of", line_of)
     monkeypatch.setattr(dialogs, "report", report)
-    for name in ("text", "text_further"):
-        monkeypatch.setattr(dialogs, name, lambda *_: answers["text"])
+
+    def answered(name: str, *its: object) -> Any:
+        # what is asked again is given up
+        is_again = any(isinstance(each, str) and each for each in its[5:])
+        return None if is_again else answers[name]
+
+    for name in ("text", "fields"):
+        monkeypatch.setattr(dialogs, name, partial(answered, name))
+    monkeypatch.setattr(dialogs, "text_further", lambda *_: answers["text"])
     monkeypatch.setattr(dialogs, "one_of", lambda *_: answers["one_of"])
     monkeypatch.setattr(dialogs, "font", lambda *_: answers["font"])
     monkeypatch.setattr(dialogs, "file_to_read", lambda *_: answers["file"])
-    monkeypatch.setattr(dialogs, "fields", lambda *_: answers["fields"])
     return answers
 
 

@@ -209,6 +209,34 @@ def test_letters_that_come_after_enter_before_a_dialog_is_gone_are_no_part_of_it
     assert "".join(noted) == "sea\nup"
 
 
+@pytest.mark.usefixtures("patient")
+def test_what_came_before_a_line_is_asked_for_again_is_no_answer(
+    held: Held, window: QMainWindow
+) -> None:
+    given_up: list[str] = []
+    held.unanswered.connect(lambda: given_up.append(held.text))
+    with held.holding():
+        for key in (*map(ord, "SEA"), Qt.Key.Key_Return):
+            for event in _pressed(key):
+                QCoreApplication.sendEvent(window.windowHandle(), event)
+    timer = QTimer()
+
+    def answer() -> None:
+        dialog = QApplication.activeModalWidget()
+        if dialog is None or not given_up:
+            return
+        timer.stop()
+        for key in (ord("S"), Qt.Key.Key_Return):
+            for event in _pressed(key):
+                QCoreApplication.postEvent(dialog.windowHandle(), event)
+
+    timer.timeout.connect(answer)
+    timer.start(1)
+    # and what is typed then comes in place of the line
+    assert dialogs.text(window, "Find", "Words:", "moon", why="It is nowhere.") == "s"
+    assert given_up == ["sea\n"]
+
+
 class _Finding(QMainWindow):
     """A window in which a key asks for words, which come before the line for them is there."""
 

@@ -20,7 +20,7 @@ def test_words_that_were_typed_to_change_others_are_there_again_until_they_are_u
     firsts: list[str] = []
 
     def text(
-        over: object, title: str, asked: str, first: str, changed: object
+        over: object, title: str, asked: str, first: str, changed: object, *_: object
     ) -> object:
         assert callable(changed)
         firsts.append(first)
@@ -60,6 +60,7 @@ def test_words_that_were_typed_to_change_all_are_there_again_until_they_are_used
         first: object,
         checks: object,
         changed: object,
+        *_: object,
     ) -> object:
         assert callable(changed)
         firsts.append(first)
@@ -73,7 +74,7 @@ def test_words_that_were_typed_to_change_all_are_there_again_until_they_are_used
     given["choices"] = [0]
     desk.act("change_all")
     desk.wait_for_draft()
-    assert firsts == [("", ""), ("a", "one")]
+    assert firsts == [["", ""], ["a", "one"]]
     assert Drafts(desk.path).words() is None
 
 
@@ -87,7 +88,7 @@ def test_that_words_can_be_kept_nowhere_is_said_until_they_are_kept(
     folder.write_text("")
 
     def text(
-        over: object, title: str, asked: str, first: str, changed: object
+        over: object, title: str, asked: str, first: str, changed: object, *_: object
     ) -> object:
         assert callable(changed)
         changed("se")
@@ -112,7 +113,7 @@ def test_words_that_can_be_kept_nowhere_are_there_again_until_the_window_is_clos
     entered = ["sea", "-ocean", "sea", "-ocean", "sea", "ocean"]
 
     def text(
-        over: object, title: str, asked: str, first: str, changed: object
+        over: object, title: str, asked: str, first: str, changed: object, *_: object
     ) -> object:
         assert callable(changed)
         firsts.append(first)

@@ -4,11 +4,21 @@ All of it runs in the thread that opened the session. Nothing here knows a windo
 """
 
 from collections.abc import Callable, Iterator, Sequence
+from contextlib import contextmanager
 from dataclasses import dataclass, replace
 from pathlib import Path
 from typing import Any
 
-from braildesk import CannotOpen, Displaced, Lost, Paragraph, Refused, Session, requests
+from braildesk import (
+    CannotOpen,
+    Code,
+    Displaced,
+    Lost,
+    Paragraph,
+    Refused,
+    Session,
+    requests,
+)
 from braildesk.desk import search
 from braildesk.desk.around_marks import corrections, prints_between
 from braildesk.desk.change import Change, change_place
@@ -57,6 +67,8 @@ from scribe.words.status import Stop
 
 # the first words of a listed paragraph
 _WORDS = 120
+# why a text is refused that was typed, whatever else is so of the book
+_OF_TEXTS = frozenset((Code.BARRED_CHARACTER, Code.UNDEFINED, Code.TOO_LONG))
 _AS_IT_WAS = "Stopped. The book is as it was."
 #: What is said where the book is open again and others changed it.
 LEFT = "Ctrl+Z no longer takes back what was done before it was opened again."
@@ -102,6 +114,21 @@ class Done:
     contents: Contents
     said: str
     paragraph: int | None
+
+
+class NoAnswer(Stop):
+    """What was answered in a dialog is refused, which asks for something else, and says why first."""
+
+
+@contextmanager
+def of_answer() -> Iterator[None]:
+    """Refuses an answer where the book refuses a text because of what was answered."""
+    try:
+        yield
+    except Refused as refused:
+        if refused.code not in _OF_TEXTS:
+            raise
+        raise NoAnswer(refused.sentence) from refused
 
 
 class NotAll(Exception):
@@ -677,7 +704,7 @@ class OpenBook:
     ) -> tuple[int, int]:
         """The paragraph and the character at which a line of a page begins.
 
-        Raises `Stop` where it isn't there.
+        Raises `NoAnswer` where it isn't there.
         """
         book, version = contents.paragraphs, contents.version
         volumes = pagelook.volumes_of(book, version, page_size)
@@ -691,7 +718,8 @@ class OpenBook:
         elif 1 <= number <= len(volumes):
             volume = volumes[number - 1]
         else:
-            raise Stop(f"There is no volume {number}: the book has {len(volumes)}.")
+            said = f"There is no volume {number}: the book has {len(volumes)}."
+            raise NoAnswer(said)
 
         def report(done: int, count: int) -> None:
             say(f"{part_of(done, count, 'paragraph')} laid out.")
@@ -702,7 +730,8 @@ class OpenBook:
         try:
             return pagelook.start_of(self._session, laid, wanted.page, wanted.line)
         except pagelook.NotThere as fault:
-            raise Stop(f"{fault.sentence} The caret stays where it was.") from fault
+            said = f"{fault.sentence} The caret stays where it was."
+            raise NoAnswer(said) from fault
 
     def place_said(
         self,

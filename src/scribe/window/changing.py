@@ -21,6 +21,7 @@ from braildesk.desk.drafts import NotKept
 from braildesk.text.characters import visible
 
 from scribe.window import dialogs
+from scribe.window.book import NoAnswer, of_answer
 from scribe.window.desk import Desk
 from scribe.window.dialogs import IsStopped, Say
 from scribe.window.finding import Finding
@@ -37,6 +38,8 @@ from scribe.words.change_all import (
 from scribe.words.paragraph import part_of, quoted
 from scribe.words.status import Stop
 
+# the lines that were typed, and which of the checks hold
+_Answer = tuple[list[str], list[bool]]
 _TITLE = "Change everywhere"
 _ASKED = ("&Words to change:", "What comes in their &place; nothing takes them out:")
 _CHECKS = ("Only wh&ole words", "Whatever the &capitals")
@@ -63,13 +66,16 @@ class Changing:
         if not desk.settle():
             return
         old, new = self._words()
-        sought = dialogs.text(
-            desk.window,
-            "Change words",
-            "Words to change:",
+        desk.line(
+            *("Change words", "Words to change:"),
+            lambda sought: self._change(sought, new),
             old or finding.words,
             lambda typed: self._keep(typed, new),
         )
+
+    def _change(self, sought: str, new: str) -> None:
+        """Asks what comes in place of words, if there are any, and puts it there."""
+        desk, finding = self.desk, self._finding
         if not sought:
             return
         self._keep(sought, new)
@@ -79,24 +85,29 @@ class Changing:
         place, reading = finding.found_here(), desk.reading
         if place is None or reading is None:
             return
-        text = reading.its.text
+        text, start, stop = reading.its.text, place.start, place.stop
         desk.window.print.select(place)
-        words = quoted(text[place.start : place.stop])
+        words = quoted(text[start:stop])
         asked = f"What comes in place of {words} in paragraph {desk.number}:"
         keep = partial(self._keep, sought)
-        came = dialogs.text(desk.window, "Change words", asked, new, keep)
-        if came is None:
-            desk.window.print.put_caret(place.start)
+
+        def put(came: str) -> None:
+            whole = replaced(text, start, stop, came)
+            with of_answer():
+                done = desk.asked(partial(desk.book.corrected, reading, whole))
+            if done is None:
+                raise NoAnswer(f"The new words are the same as the old. {_NOTHING}")
+            self._keep("", "")
+            desk.show_done(done)
+
+        why = desk.line("Change words", asked, put, new, keep)
+        if why is not None:
+            desk.window.print.put_caret(start)
             is_here = desk.aside.result(lambda: self._here is not None, False)
             until = " until the window is closed" if is_here else ""
-            desk.say(f"{_NOTHING} Ctrl+H has the words again{until}.")
-            return
-        whole = replaced(text, place.start, place.stop, came)
-        done = desk.asked(partial(desk.book.corrected, reading, whole))
-        self._keep("", "")
-        if done is None:
-            raise Stop(f"The new words are the same as the old. {_NOTHING}")
-        desk.show_done(done)
+            why = why.removesuffix(_NOTHING).rstrip()
+            said = f"{why} {_NOTHING} Ctrl+H has the words again{until}."
+            desk.say(said.lstrip())
 
     def _words(self) -> tuple[str, str]:
         """The words that were typed to be changed and to come in their place, and weren't used."""
@@ -130,19 +141,23 @@ class Changing:
         desk = self.desk
         desk.settled()
         old, new = self._words()
-        first = (old or self._finding.words, new)
-        answer = dialogs.fields(
-            *(desk.window, _TITLE, _ASKED, first, _CHECKS),
-            lambda typed: self._keep(*typed),
-        )
-        if answer is None:
-            return
+        keep = lambda typed: self._keep(*typed)
+
+        def ask(why: str, before: _Answer) -> _Answer | None:
+            words, holding = before
+            its = desk.window, _TITLE, _ASKED, words, _CHECKS
+            return dialogs.fields(*its, keep, why, holding)
+
+        first = [old or self._finding.words, new], [False] * len(_CHECKS)
+        desk.until_taken(ask, first, self._change_all)
+
+    def _change_all(self, answer: _Answer) -> None:
         (old, new), (is_of_words, is_of_any_case) = answer
         if not old:
-            raise Stop(f"No words to change were typed. {_NOTHING}")
+            raise NoAnswer(f"No words to change were typed. {_NOTHING}")
         self._finding.seek(old)
         how = is_of_words, is_of_any_case
-        self.go_on(Replacement(old, new, *how, by=desk.book.by))
+        self.go_on(Replacement(old, new, *how, by=self.desk.book.by))
 
     def go_on(self, wanted: Replacement) -> None:
         """Puts words in place of others wherever these stand and weren't changed before."""
@@ -176,7 +191,7 @@ class Changing:
             # what is noted of places that are all done is taken away
             left_open(session, desk.drafts)
             if not further.is_done:
-                raise Stop(nowhere(session, wanted, "."))
+                raise NoAnswer(nowhere(session, wanted, "."))
             notes = (note for note, _ in further.notes)
             raise Stop(f"{none_left(wanted, notes)} {_NOTHING}")
 

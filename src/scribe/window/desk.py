@@ -41,6 +41,7 @@ from scribe.window import dialogs, typed_on
 from scribe.window.book import (
     Contents,
     Done,
+    NoAnswer,
     NotAll,
     OpenBook,
     Opening,
@@ -78,6 +79,7 @@ from scribe.words.status import Interrupted, Stop, in_sentences
 from scribe.words.typed_last import TypedLast
 
 Result = TypeVar("Result")
+Answer = TypeVar("Answer")
 #: What is said where an action needs a paragraph, where that has to be one that isn't struck, and where
 #: the book isn't open any more.
 NO_PARAGRAPH = "The book has no paragraph yet. Ctrl+Enter begins one."
@@ -1359,6 +1361,43 @@ class Desk:
         if not self.is_ending:
             self._put_by_at_offer()
         return answer
+
+    def line(
+        self,
+        title: str,
+        asked: str,
+        act: Callable[[str], None],
+        first: str = "",
+        changed: Callable[[str], None] | None = None,
+    ) -> str | None:
+        """Does something with a line that is asked for, and gives the same as below."""
+        its = self.window, title, asked
+        ask = lambda why, line: dialogs.text(*its, line, changed, why)
+        return self.until_taken(ask, first, act)
+
+    def until_taken(
+        self,
+        ask: Callable[[str, Answer], Answer | None],
+        answer: Answer,
+        act: Callable[[Answer], None],
+    ) -> str | None:
+        """Does something with what is answered in a dialog, which has an answer to begin with.
+
+        Where that is refused, it is asked again, and said first why. Nothing is given once it is
+        done; where it is given up, why it was refused last, if it was, which is in the message then.
+        """
+        why = ""
+        while (found := ask(why, answer)) is not None:
+            try:
+                act(found)
+                return None
+            except NoAnswer as refused:
+                why, answer = refused.sentence, found
+            # what is typed on is no answer to a dialog of which nobody knows yet
+            self.work.wait_for_pause()
+        if why:
+            self.say(why)
+        return why
 
     def one_of(
         self, title: str, asked: str, names: Sequence[str], first: int | None = None

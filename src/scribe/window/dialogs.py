@@ -141,9 +141,13 @@ def text(
     asked: str,
     first: str = "",
     changed: Callable[[str], None] | None = None,
+    why: str = "",
 ) -> str | None:
-    """Asks for a line; none where it is given up."""
-    return _line(QInputDialog(over), title, asked, first, changed)
+    """Asks for a line; none where it is given up.
+
+    Where it is asked again, it is said first why, and what is typed comes in place of the line.
+    """
+    return _line(QInputDialog(over), title, asked, first, changed, why)
 
 
 def text_further(
@@ -173,10 +177,11 @@ def _line(
     asked: str,
     first: str,
     changed: Callable[[str], None] | None,
+    why: str = "",
 ) -> str | None:
     over = dialog.parentWidget()
     dialog.setWindowTitle(title)
-    dialog.setLabelText(_whole(asked))
+    dialog.setLabelText(_whole(_after(why, asked)))
     dialog.setTextValue(first)
     fit(dialog, WIDTH)
 
@@ -185,17 +190,18 @@ def _line(
             changed(_in_a_line(line))
 
     dialog.textValueChanged.connect(typed)
-    _take_until_answered(dialog)
+    _take_until_answered(dialog, bool(why))
     with _back_to(over, dialog):
         return _in_a_line(dialog.textValue()) if dialog.exec() else None
 
 
-def _take_until_answered(dialog: QDialog) -> None:
+def _take_until_answered(dialog: QDialog, is_again: bool = False) -> None:
     """Has lines of a dialog take what came before it was there, and nothing once it is answered.
 
-    Letters that come after Enter, before it is gone, are no part of the answer.
+    Letters that come after Enter, before it is gone, are no part of the answer, nor of what is
+    answered where it is asked again.
     """
-    take_what_came(dialog)
+    take_what_came(dialog, is_again)
     for line in within(dialog, QLineEdit):
         dialog.accepted.connect(partial(line.setReadOnly, True))
 
@@ -203,6 +209,11 @@ def _take_until_answered(dialog: QDialog) -> None:
 def _in_a_line(typed: str) -> str:
     """What was typed on a line, where Qt leaves the ends of lines that were pasted."""
     return " ".join(lines_of(typed))
+
+
+def _after(why: str, asked: str) -> str:
+    """What is asked, after why it is asked again, if it is."""
+    return f"{visible(why)} {asked}".lstrip()
 
 
 def _whole(asked: str) -> str:
@@ -268,12 +279,15 @@ def fields(
     first: Sequence[str],
     checks: Sequence[str],
     changed: Callable[[list[str]], None] = lambda typed: None,
+    why: str = "",
+    holding: Sequence[bool] = (),
 ) -> tuple[list[str], list[bool]] | None:
-    """Asks for several lines, and whether some things hold; none where it is given up."""
+    """Asks for several lines, and whether some things hold; none where it is given up. Again as for a line."""
     dialog = QDialog(over)
     dialog.setWindowTitle(title)
     column = QVBoxLayout(dialog)
     lines = [_LineOfSeveral(text) for text in first]
+    asked = [_after(_whole(why), asked[0]), *asked[1:]]
 
     def typed() -> list[str]:
         return [_in_a_line(line.text()) for line in lines]
@@ -284,20 +298,27 @@ def fields(
         column.addWidget(label)
         column.addWidget(line)
         line.textChanged.connect(lambda _: changed(typed()))
-    boxes = [QCheckBox(words) for words in checks]
-    for box in boxes:
-        column.addWidget(box)
-    column.addWidget(_ok_or_cancel(dialog))
+    boxes = _checks(checks, holding)
+    for part in (*boxes, _ok_or_cancel(dialog)):
+        column.addWidget(part)
     lines[0].selectAll()
     # at once, since what came before is typed before the dialog has the keyboard
     lines[0].setFocus()
     fit(dialog, WIDTH)
-    _take_until_answered(dialog)
+    _take_until_answered(dialog, bool(why))
     with _back_to(over, dialog):
         is_given = dialog.exec()
     if not is_given:
         return None
     return typed(), [box.isChecked() for box in boxes]
+
+
+def _checks(words: Sequence[str], holding: Sequence[bool]) -> list[QCheckBox]:
+    """Boxes to be checked, of which some are."""
+    boxes = [QCheckBox(each) for each in words]
+    for box, holds in zip(boxes, holding):
+        box.setChecked(holds)
+    return boxes
 
 
 class _LineOfSeveral(QLineEdit):
@@ -341,11 +362,13 @@ def file_to_read(
     return Path(name) if name else None
 
 
-def folder(over: QWidget, title: str, asked: str, first: str) -> str | None:
-    """Asks for the path of a folder, which may be typed or looked for."""
+def folder(
+    over: QWidget, title: str, asked: str, first: str, why: str = ""
+) -> str | None:
+    """Asks for the path of a folder, which may be typed or looked for; again as for a line."""
     dialog = QDialog(over)
     dialog.setWindowTitle(title)
-    line, label = QLineEdit(first), QLabel(asked)
+    line, label = QLineEdit(first), QLabel(_after(_whole(why), asked))
     label.setBuddy(line)
     line.selectAll()
 
@@ -366,7 +389,7 @@ def folder(over: QWidget, title: str, asked: str, first: str) -> str | None:
     # as above
     line.setFocus()
     fit(dialog, _FOLDER_WIDTH)
-    _take_until_answered(dialog)
+    _take_until_answered(dialog, bool(why))
     with _back_to(over, dialog):
         return line.text() if dialog.exec() else None
 

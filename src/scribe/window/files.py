@@ -24,7 +24,7 @@ from braildesk.session import HeldFile, held_file
 from braildesk.workshop import MayNotLast
 
 from scribe.window import dialogs
-from scribe.window.book import LEFT, Contents
+from scribe.window.book import LEFT, Contents, NoAnswer
 from scribe.window.desk import Desk
 from scribe.window.dialogs import IsStopped, Say
 from scribe.words.console import Console, Heard
@@ -92,11 +92,15 @@ class Files:
             return
         title = f"Export, pages of {described(desk.page_size)}"
         first = str(self._folder or desk.path.absolute().parent / _PAGES)
-        typed = dialogs.folder(desk.window, title, _ASKED, first)
-        if typed is None:
-            return
+        its = desk.window, title, _ASKED
+        ask = lambda why, typed: dialogs.folder(*its, typed, why)
+        desk.until_taken(ask, first, self._exported)
+
+    def _exported(self, typed: str) -> None:
+        """Writes the volumes to a folder that was typed."""
+        desk = self.desk
         if not typed.strip():
-            raise Stop("No folder was typed, so nothing was exported.")
+            raise NoAnswer("No folder was typed, so nothing was exported.")
         folder = desk.path.absolute().parent / typed_path(typed)
         self._folder = folder
         job = Job(desk.path, folder, desk.page_size, USUAL_WAIT)

@@ -7,8 +7,8 @@ from braildesk.text.characters import code_and_name
 from braildesk.text.sequences import composed
 from braildesk.text.spans import Span, find_spans
 
-from scribe.window import dialogs
 from scribe.window.arriving import say_there
+from scribe.window.book import NoAnswer
 from scribe.window.desk import Desk
 from scribe.words.paragraph import quoted
 from scribe.words.status import Stop
@@ -34,12 +34,12 @@ class Finding:
         selected = desk.window.print.textCursor().selectedText()
         first = self.sought if is_cells else selected or self.sought
         asked = "Cells, in Braille ASCII or Unicode:" if is_cells else "Words:"
-        sought = dialogs.text(desk.window, "Find", asked, first)
-        if sought:
-            self.look_for(sought, is_cells)
+        desk.line("Find", asked, lambda sought: self.look_for(sought, is_cells), first)
 
     def look_for(self, sought: str, is_cells: bool) -> None:
-        """Goes to the next place of words or cells."""
+        """Goes to the next place of words or cells, if there are any."""
+        if not sought:
+            return
         self.seek(sought)
         if is_cells:
             self.words = ""
@@ -70,7 +70,8 @@ class Finding:
                 found = desk.asked(lambda: desk.book.next_cells(contents, here, sought))
             except NotCells as fault:
                 what = code_and_name(str(fault))
-                raise Stop(f"{what} is no cell in Braille ASCII or Unicode.") from fault
+                said = f"{what} is no cell in Braille ASCII or Unicode."
+                raise NoAnswer(said) from fault
         else:
             found = desk.asked(
                 lambda: desk.book.next_words(contents, here, sought, is_alike)
@@ -81,7 +82,7 @@ class Finding:
             )
             self._finds_alike = found is not None
         if found is None:
-            raise Stop(f"{quoted(sought)} stands nowhere in the book.")
+            raise NoAnswer(f"{quoted(sought)} stands nowhere in the book.")
         self._at_found(found, is_cells)
 
     def _place(self, is_cells: bool) -> int:

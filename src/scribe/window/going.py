@@ -11,8 +11,8 @@ from braildesk.desk.readings import prints
 from braildesk.text.characters import visible
 from braildesk.text.excerpt import opening
 
-from scribe.window import dialogs
 from scribe.window.arriving import say_there
+from scribe.window.book import NoAnswer
 from scribe.window.desk import Desk
 from scribe.window.dialogs import IsStopped, Say
 from scribe.window.finding import Finding
@@ -35,13 +35,14 @@ class Going:
 
     def go_to(self) -> None:
         """Asks for a paragraph, a line of a page, or words, and goes there."""
-        desk = self.desk
-        if not desk.settle():
-            return
-        typed = dialogs.text(desk.window, "Go to", _ASKED)
-        word = (typed or "").strip()
+        if self.desk.settle():
+            self.desk.line("Go to", _ASKED, self._to_typed)
+
+    def _to_typed(self, typed: str) -> None:
+        """Goes to what was typed, if anything was."""
+        word = typed.strip()
         wanted = pagelook.wanted_line(word)
-        if not typed or not word:
+        if not word:
             return
         if word.isascii() and word.isdigit():
             self._to_number(word.lstrip("0") or "0")
@@ -55,7 +56,8 @@ class Going:
         book = self.desk.contents.paragraphs
         number = next((each.id for each in book if str(each.id) == word), None)
         if number is None:
-            raise Stop(f"There is no paragraph {opening(word, _WORDS)} in the book.")
+            said = f"There is no paragraph {opening(word, _WORDS)} in the book."
+            raise NoAnswer(said)
         self._to(number, 0, self.desk.window.table)
         self._say_there()
 

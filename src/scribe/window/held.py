@@ -34,13 +34,16 @@ _PAUSE_SECONDS = 0.3
 _STILL_SECONDS = 0.4
 # what is dragged, which is there only for now
 _OF_DRAGS = frozenset((_KINDS.DragEnter, _KINDS.DragMove, _KINDS.Drop))
-# the property of dialogs of which a line takes what came before it was there
+# the property of dialogs with a line: whether that takes what came before it was there
 _TAKES = "takesWhatCame"
 
 
-def take_what_came(dialog: QWidget) -> None:
-    """Has a line of a dialog take what comes after the key that opens it, before it has the keyboard."""
-    dialog.setProperty(_TAKES, True)
+def take_what_came(dialog: QWidget, is_again: bool = False) -> None:
+    """Has a line of a dialog take what comes after the key that opens it, before it has the keyboard.
+
+    Where it is asked again, that is no answer, since nobody knew of the dialog.
+    """
+    dialog.setProperty(_TAKES, not is_again)
 
 
 def _is_of_text(event: QEvent | None) -> bool:
@@ -51,7 +54,7 @@ def _is_of_text(event: QEvent | None) -> bool:
 
 
 def _is_of_line(dialog: QWidget | None) -> TypeGuard[QWidget]:
-    return dialog is not None and bool(dialog.property(_TAKES))
+    return dialog is not None and dialog.property(_TAKES) is not None
 
 
 def _is_beneath_line(to: QObject) -> bool:
@@ -242,7 +245,8 @@ class Held(QObject):
             return
         over, to, event = self._events[0]
         dialog = QApplication.activeModalWidget()
-        is_line, is_there = _is_of_line(dialog), dialog is over
+        is_line = dialog is not None and bool(dialog.property(_TAKES))
+        is_there = dialog is over
         if not is_there and not (is_line and self._is_ahead):
             self.unanswered.emit()
             self._events.clear()

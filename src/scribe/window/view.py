@@ -5,7 +5,7 @@ from PyQt6.QtWidgets import QApplication
 from braildesk.text.cells import braille_ascii
 
 from scribe.window import dialogs
-from scribe.window.book import LEFT
+from scribe.window.book import LEFT, NoAnswer
 from scribe.window.desk import CLOSED, Desk
 from scribe.window.menus import key_lines
 from scribe.words.pages import NoSize, described, typed_page_size
@@ -63,13 +63,14 @@ class View:
         desk = self.desk
         now = f"{desk.page_size.width} {desk.page_size.lines}"
         asked = "The cells of a line, and the lines of a page, as in 40 25:"
-        typed = dialogs.text(desk.window, "Page size", asked, now)
-        if typed is None:
-            return
+        desk.line("Page size", asked, self._take_page_size, now)
+
+    def _take_page_size(self, typed: str) -> None:
+        desk = self.desk
         try:
             desk.page_size = typed_page_size(typed)
         except NoSize as fault:
-            raise Stop(fault.sentence) from fault
+            raise NoAnswer(fault.sentence) from fault
         desk.say(f"Pages have {described(desk.page_size)}.")
         desk.update_page(True)
 

@@ -11,8 +11,7 @@ from braildesk.desk.volume_plan import (
     to_be_set,
 )
 
-from scribe.window import dialogs
-from scribe.window.book import Done
+from scribe.window.book import Done, NoAnswer
 from scribe.window.desk import Desk
 from scribe.window.dialogs import IsStopped, Say
 from scribe.words.paragraph import counted
@@ -46,14 +45,13 @@ class Volumes:
 
     def part(self) -> None:
         """Asks how many pages a volume has, proposes volumes, and sets them."""
-        desk = self.desk
-        desk.settled()
-        typed = dialogs.text(desk.window, "Part into volumes", _ASKED)
-        if typed is None:
-            return
-        word = typed.strip().lstrip("0")
+        self.desk.settled()
+        self.desk.line("Part into volumes", _ASKED, self._part)
+
+    def _part(self, typed: str) -> None:
+        desk, word = self.desk, typed.strip().lstrip("0")
         if not (word.isascii() and word.isdigit()):
-            raise Stop("A volume has at least 1 page: type how many, as in 80.")
+            raise NoAnswer("A volume has at least 1 page: type how many, as in 80.")
         most = int(word[:9])
         book, volumes, lines = self._looked_at("Part into volumes", most)
         changed = to_be_set(book, volumes)
