@@ -38,7 +38,6 @@ from braildesk.desk.documents.kinds import (
 )
 from braildesk.desk.documents.markdown_notes import repeated, with_marks
 from braildesk.desk.documents.pandoc import office, tree
-from braildesk.desk.documents.markup import characters_of_page
 from braildesk.desk.documents.options import ReadingOptions
 from braildesk.desk.documents.reading import (
     Loss,
@@ -2593,31 +2592,6 @@ def test_a_picture_of_a_tree_is_described_by_its_title_if_nothing_else_does(
     found = document({"blocks": [{"t": "Para", "c": [picture]}]})
     assert [part.text for part in found.parts] == [text] * bool(text)
     assert [loss.what for loss in found.losses] == [LossKind.PICTURE] * (not text)
-
-
-@pytest.mark.parametrize(
-    "declared, texts",
-    [
-        ('<!ENTITY x "y">', ["One y two &z;."]),
-        ("<!-- a ]> don't --><!ENTITY x 'a ]> b'>\n", ["One a ]> b two &z;."]),
-        ('<!ENTITY x SYSTEM "x.ent"><!ELEMENT x (y)> %z;', ["One &x; two &z;."]),
-        ('<!ENTITY x "y</p><p>"><!ENTITY lt "less">', ["One y", "two &z;."]),
-    ],
-)
-@pytest.mark.parametrize("what", ["html", 'html PUBLIC "-//W3C//DTD" "x.dtd"'])
-def test_what_a_page_declares_is_no_print_and_its_names_stand_for_their_texts(
-    declared: str, texts: list[str], what: str
-) -> None:
-    page = (
-        f"<!DOCTYPE {what} [{declared}] ><html><p>One &x; two &z;.</p><p>a < b</html>"
-    )
-    found = read_document(page.encode(), ManuscriptKind.HTML)
-    assert (found.texts, found.missing) == ([*texts, "a < b"], ())
-
-
-def test_names_that_a_page_declares_do_not_make_it_grow_without_end() -> None:
-    page = f'<!DOCTYPE html [<!ENTITY x "{"y" * 9_000}">]><p>{"&x;" * 5_000}'
-    assert characters_of_page(page.encode()) == f"<!DOCTYPE html >{page[-15_003:]}"
 
 
 def test_paragraphs_of_a_list_beside_its_items_are_typed_without_bullets() -> None:

@@ -10,7 +10,6 @@ from html.parser import HTMLParser
 from braildesk.desk.documents.kinds import NoDocument, WhyNot
 from braildesk.desk.documents.reading import plain
 from braildesk.desk.manuscript import decoded
-from braildesk.text import limits
 
 #: Where a page says in what it is encoded; else its front does, or it is of an older system.
 _CHARSET = re.compile(rb"(?:charset|encoding)\s*=\s*[\"']?([A-Za-z0-9_.-]+)")
@@ -31,17 +30,6 @@ _OF_ONE_BYTE = re.compile(r"(iso[-_]?8859|windows[-_]?125|cp125|latin).*")
 #: In which many pages are that say nothing of it.
 _USUAL = "cp1252"
 _MARKS = ((b"\xff\xfe", "utf-16"), (b"\xfe\xff", "utf-16"), (b"", "utf-8-sig"))
-#: What a page declares of its own in brackets, which is looked for at its front, the name of a text there,
-#: and where such a text is to stand. The names that XML itself has mean what they always do.
-_DECLARED = re.compile(
-    r"""(<!DOCTYPE\s[^<>\[]*)\[((?:<!--.*?-->|"[^"]*"|'[^']*'|[^\]])*+)\]\s*>""",
-    re.IGNORECASE | re.DOTALL,
-)
-_DECLARATIONS = 20_000
-_TEXT_OF_NAME = re.compile(
-    r"""<!ENTITY\s+(?!(?:amp|lt|gt|quot|apos)\s)([\w:.-]+)\s+(?:"([^"]*)"|'([^']*)')\s*>"""
-)
-_NAME_OF_TEXT = re.compile(r"&([\w:.-]+);")
 
 #: The elements that part paragraphs, as pandoc has them: all others stand within a line.
 BLOCKS = frozenset(
@@ -147,20 +135,9 @@ def words_beside(tag: str, attributes: Mapping[str, str | None]) -> str:
 def characters_of_page(data: bytes) -> str:
     """The characters of a page, as it says or is read; raises `UnreadableText`.
 
-    pandoc takes what isn't UTF-8 for Latin 1, with a warning, and what a page declares for print: in
-    its place are the texts of the names that are declared there.
+    pandoc takes what isn't UTF-8 for Latin 1, with a warning.
     """
-    page = _said(data) or _strictly(data, [_USUAL]) or decoded(data)
-    declared = _DECLARED.search(page, 0, _DECLARATIONS)
-    if declared is None:
-        return page
-    found = _TEXT_OF_NAME.findall(declared[2])
-    texts = {name: one or other for name, one, other in found}
-    rest = page[declared.end() :]
-    count = sum(len(texts.get(name, "")) for name in _NAME_OF_TEXT.findall(rest))
-    if count <= limits.TEXT_BYTES:
-        rest = _NAME_OF_TEXT.sub(lambda its: texts.get(its[1], its[0]), rest)
-    return f"{page[: declared.start()]}{declared[1]}>{rest}"
+    return _said(data) or _strictly(data, [_USUAL]) or decoded(data)
 
 
 def is_guessed(data: bytes) -> bool:
