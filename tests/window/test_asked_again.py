@@ -2,6 +2,7 @@
 
 import os
 import signal
+import time
 from pathlib import Path
 
 import pytest
@@ -211,6 +212,30 @@ def test_a_text_that_is_typed_on_after_an_answer_that_is_refused_is_no_answer(
     _answers(window, "sea")
     window.no_dialog()
     window.says(f"{_THERE} ")
+    window.says("“They rise.”")
+    window.press("Ctrl+q")
+    assert window.end() == 0
+    assert prints(moon)[1] == _PRINT
+    assert [each.text for each in Drafts(moon).given_up()] == ["They rise."]
+
+
+def test_nor_is_one_that_goes_on_at_once_after_hands_stood_still(
+    moon: Path, at: Open
+) -> None:
+    window = at(moon)
+    _at_print(window)
+    window.press("Ctrl+f")
+    _line(window, "Find", "Words:")
+    window.type("zebra")
+    time.sleep(0.5)
+    window.press("Return")
+    for letter in "They rise.":
+        time.sleep(0.1)
+        window.type(letter)
+    line = _line(window, "Find", f"{_NOWHERE} Words:")
+    assert window.text_in(line) == "zebra"
+    window.press("Escape")
+    window.no_dialog()
     window.says("“They rise.”")
     window.press("Ctrl+q")
     assert window.end() == 0

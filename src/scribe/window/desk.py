@@ -1394,6 +1394,7 @@ class Desk:
             except NoAnswer as refused:
                 why, answer = refused.sentence, found
             # what is typed on is no answer to a dialog of which nobody knows yet
+            self.held.expect_text()
             self.work.wait_for_pause()
         if why:
             self.say(why)

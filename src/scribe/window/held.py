@@ -111,6 +111,10 @@ class Held(QObject):
             not self._is_hurried and time.monotonic() < self._typed_at + _PAUSE_SECONDS
         )
 
+    def expect_text(self) -> None:
+        """Takes it that hands are typing, which go on before they know what became of a key."""
+        self._typed_at = time.monotonic()
+
     def stand_still(self) -> None:
         """Has nothing come for a moment, in which a part takes the focus, while something is waited for.
 
