@@ -11,7 +11,7 @@ from pathlib import Path
 from typing import Any, BinaryIO
 
 from braildesk import opening, program as programs
-from braildesk.held import copy_held, held
+from braildesk.held import copy_held, held, open_file
 from braildesk.opening import has_journal, has_work, is_log, waited
 from braildesk.program import StrPath
 from braildesk.protocol.asked import (
@@ -38,10 +38,12 @@ from braildesk.workshop import (
     MayNotLast,
     OthersLink,
     Place,
+    Swapped,
     copy_bytes,
     create,
     give_access,
     give_list,
+    is_same,
     made_beside,
     made_for_a_while,
     open_made,
@@ -355,20 +357,48 @@ def copy(
     return waited(lambda: _copied(book, named, replaces, program), timeout)
 
 
+def copy_open(path: StrPath, to: StrPath, *, overwrite: bool = False) -> int:
+    """Copies a book that another program may have open, as ``copy`` does with ``only_books``.
+
+    It is copied to a temporary folder first, with every command that was kept before this was called.
+    """
+    # imported here, since few books are copied while they are open
+    from braildesk.snapshot import copied
+
+    replaces = _may_be_book if overwrite else None
+    book = open_file(BookFile.of(path))
+    with book, copied(path, book.fileno()) as (now, made):
+
+        def book_of(copy: BinaryIO) -> BinaryIO:
+            """The book, unless another file was put in the place of its copy."""
+            if not is_same(os.fstat(copy.fileno()), made):
+                raise Swapped
+            return book
+
+        return _copied(BookFile.of(now), fspath(to), replaces, None, book_of)
+
+
 def _copied(
-    book: BookFile, named: str, replaces: _Replaces | None, program: StrPath | None
+    book: BookFile,
+    named: str,
+    replaces: _Replaces | None,
+    program: StrPath | None,
+    book_of: Callable[[BinaryIO], BinaryIO] = lambda source: source,
 ) -> int:
+    """Copies a book, or a copy of one, of which the file of that book is said."""
     try:
-        with held(book) as source, _claimed(source, named, replaces) as target:
-            with made_beside(target.path) as made:
-                copied = copy_held(source, book.log, made)
-                version = _checked(made, copied, book, named, program)
-                _put(made, target, _finish(source, made, copied))
+        with held(book) as source:
+            its = book_of(source)
+            with _claimed(its, named, replaces) as target:
+                with made_beside(target.path) as made:
+                    copied = copy_held(source, book.log, made)
+                    version = _checked(made, copied, book, named, program)
+                    _put(made, target, _finish(its, made, copied))
     except FileIsThere:
         if replaces is None:
             raise
         # it was put there in this moment, and is to be replaced too
-        return _copied(book, named, replaces, program)
+        return _copied(book, named, replaces, program, book_of)
     except (OSError, ValueError) as error:
         raise _not_written(named, _why(error)) from error
     return version

@@ -109,6 +109,8 @@ def _copied_once(book: BookFile, file: BinaryIO, copied: Path) -> os.stat_result
     with open_made(copied, found) as made:
         give_list(made.fileno(), file.fileno())
         give_access(made.fileno(), file.fileno())
+        # its owner may be another one by now
+        found = os.fstat(made.fileno())
     # no two logs have one header
     is_its_log = _header(f"{copied}-wal") == before[-1]
     is_whole = is_its_log and _state(book, file) == before and is_at_path(book, file)

@@ -14,7 +14,7 @@ import pytest
 import braildesk
 from braildesk import CannotOpen, Displaced, Session, Why
 from braildesk.held import held
-from braildesk.snapshot import snapshot
+from braildesk.snapshot import copied
 
 from scribe.cli import run_words
 from scribe.words.console import Console
@@ -193,13 +193,13 @@ def test_a_book_whose_session_ends_is_not_replaced_by_what_it_had_kept_before(
     session = Session(moon)
 
     @contextmanager
-    def ended(path: Path) -> Iterator[Path]:
-        with snapshot(path) as copied:
+    def ended(path: Path, like: int) -> Iterator[tuple[Path, os.stat_result]]:
+        with copied(path, like) as made:
             session.strike(2)
             session.close()
-            yield copied
+            yield made
 
-    monkeypatch.setattr("scribe.cli.commands.copy.snapshot", ended)
+    monkeypatch.setattr("braildesk.snapshot.copied", ended)
     words = ["copy", str(moon), str(link), "--overwrite"]
     status = run_words(words, Console(BytesIO(), StringIO(), said := StringIO()))
     session.close()

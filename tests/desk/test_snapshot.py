@@ -10,7 +10,7 @@ import tempfile
 import threading
 from collections.abc import Callable
 from concurrent.futures import ThreadPoolExecutor
-from contextlib import ExitStack, closing
+from contextlib import AbstractContextManager, ExitStack, closing
 from pathlib import Path
 from typing import Any, BinaryIO
 
@@ -31,7 +31,8 @@ from braildesk import snapshot as own
 from braildesk.desk.copied_book import copied_book, copied_session
 from braildesk.desk.manuscripts import read_with_access
 from braildesk.files import contents
-from braildesk.held import copy_held
+from braildesk.held import copy_held, held
+from braildesk.making import copy_open
 from braildesk.opening import LOGS, MAGIC, has_work, take_shared
 from braildesk.protocol.asked import BookFile
 from braildesk.protocol.requests import Correct, Restore, Strike
@@ -311,12 +312,13 @@ def test_what_is_made_of_a_book_by_who_is_on_its_list_alone_is_for_its_group(
         os.setxattr(book, "system.posix_acl_access", names)
     except OSError:
         pytest.skip("the file system keeps no such lists")
-    words = ["proof {} page.html", "export {} pages", "export {} pages --page 1"]
+    words = ["copy {} other.braildesk", "proof {} page.html", "export {} pages"]
+    words.append("export {} pages --page 1")
 
     def make() -> None:
         os.umask(0o002)
         # a book that is open isn't exported
-        for each in words[: 1 if is_open else 3]:
+        for each in words[: 2 if is_open else 4]:
             assert scribe(*each.format(book).split(), folder=shared).status == 0
         _, access = read_with_access(book)
         assert (access.mode, access.group) == (0o660, office)
@@ -325,12 +327,51 @@ def test_what_is_made_of_a_book_by_who_is_on_its_list_alone_is_for_its_group(
         if is_open:
             opened.enter_context(Session(book))
         assert as_stranger(make) == ""
-    made = [each for each in shared.rglob("*.*") if each.suffix in (".html", ".brf")]
+    ending = ".html", ".brf"
+    made = [each for each in shared.rglob("*.*") if each.suffix in ending]
     assert len(made) == (1 if is_open else 3)
+    made.append(shared / "other.braildesk")
     for each in made:
         found = each.stat()
         assert (found.st_uid, found.st_gid) == (STRANGER, office)
         assert stat.S_IMODE(found.st_mode) == 0o660
+
+
+@NEEDS_ROOT
+@pytest.mark.parametrize("mode", [0o640, 0o460])
+def test_a_copy_of_an_open_book_has_the_owner_of_the_book_where_he_may_be_given(
+    moon: Path, mode: int
+) -> None:
+    os.chown(moon, STRANGER, 7)
+    moon.chmod(mode)
+    with Session(moon):
+        ran = scribe("copy", moon.name, "other", folder=moon.parent)
+        with copied_book(moon) as copy, open(copy.path, "rb") as file:
+            assert copy.access_of(file.fileno()) is copy.access
+    assert ran.status == 0
+    found = moon.with_name("other").stat()
+    assert (found.st_uid, found.st_gid) == (STRANGER, 7)
+    assert stat.S_IMODE(found.st_mode) == mode
+
+
+def test_what_is_put_in_the_place_of_a_copy_of_an_open_book_is_not_copied(
+    moon: Path, monkeypatch: pytest.MonkeyPatch
+) -> None:
+    private, other = moon.with_name("private"), moon.with_name("other")
+    shutil.copyfile(moon, private)
+    monkeypatch.setattr(tempfile, "tempdir", str(moon.parent))
+
+    def swapped(*given: Any) -> AbstractContextManager[BinaryIO]:
+        (made,) = moon.parent.glob(".braildesk-*/made-by-braildesk")
+        # as others may do in a temporary folder in which they may write
+        private.replace(made)
+        return held(*given)
+
+    monkeypatch.setattr("braildesk.making.held", swapped)
+    with pytest.raises(Failed) as caught:
+        copy_open(moon, other)
+    assert "another program put something else in the place" in caught.value.sentence
+    assert not other.exists()
 
 
 def test_what_is_put_in_the_place_of_a_copy_gives_what_is_read_of_it_its_own_access(

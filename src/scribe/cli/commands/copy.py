@@ -1,14 +1,12 @@
 """`scribe copy`: a copy of a book that opens as the same book."""
 
 from argparse import ArgumentParser, Namespace
-from functools import partial
 from pathlib import Path
 
 from braildesk import CannotOpen, Why, copy
-from braildesk.making import FileIsThere
+from braildesk.making import FileIsThere, copy_open
 from braildesk.named_files import is_same_file
 from braildesk.protocol.asked import BookFile
-from braildesk.snapshot import snapshot
 
 from scribe.cli.endings import made_or_not
 from scribe.cli.opened_book import without_log
@@ -66,17 +64,17 @@ def run(arguments: Namespace, console: Console) -> Status:
 
 def _copied(arguments: Namespace) -> tuple[int, bool]:
     """The version of the copy, and whether another program has the book open."""
-    to = arguments.to
-    put = partial(copy, to=to, overwrite=arguments.overwrite, only_books=True)
+    book, to, overwrite = arguments.file, arguments.to, arguments.overwrite
     try:
-        return put(arguments.file, timeout=arguments.wait), False
+        wait = arguments.wait
+        version = copy(book, to, overwrite=overwrite, only_books=True, timeout=wait)
+        return version, False
     except CannotOpen as refusal:
         # of the book itself no older copy takes its place, should the other program end by now
-        is_book = is_same_file(arguments.file, to)
+        is_book = is_same_file(book, to)
         if refusal.why is not Why.IN_USE or _is_of(refusal, to) or is_book:
             raise
-    with snapshot(arguments.file) as copied:
-        return put(copied), True
+    return copy_open(book, to, overwrite=overwrite), True
 
 
 def _is_of(refusal: CannotOpen, path: Path) -> bool:
