@@ -196,6 +196,22 @@ def test_the_same_import_is_refused_where_it_was_cut_short(killed: Path) -> None
     assert prints(killed) == ["front", *LINES[:5], "end"]
 
 
+def test_an_import_that_was_cut_short_is_refused_from_any_line_up_to_the_first_paragraph(
+    killed: Path,
+) -> None:
+    (text := killed.parent / "text.txt").write_text("\n \n" + "\n".join(LINES))
+    digest = hashlib.sha256(text.read_bytes()).hexdigest()
+    Drafts(killed).begin_import(replace(begun(killed), digest=digest, line=3))
+    for line in "123":
+        found = again(killed, "--lines", "--after", "1", "--from", line)
+        assert found.status == 2 and found.said.endswith(
+            "\n--continue goes on with line 8, --again types all of it once more, and --leave"
+            " leaves the rest out. Nothing was typed.\n"
+        )
+    assert again(killed, "--lines", "--after", "7", "--from", "8").status == 0
+    assert prints(killed) == ["front", *LINES, "end"]
+
+
 def test_an_import_whose_book_is_replaced_goes_on_where_that_is_saved(
     front: Path, monkeypatch: pytest.MonkeyPatch
 ) -> None:

@@ -217,7 +217,11 @@ class Importer:
         if self.job.way is not Way.GO_ON:
             self.job = self._chosen(data)
         whole = self.taken = _taken(self.job, data)
-        self._parts = _parted(self.job, whole.passages)
+        self._parts = before, _ = _parted(self.job, whole.passages)
+        if not before and self.job.way is Way.ASK and self.job.line not in (None, 1):
+            # lines without a paragraph may stand before the first one
+            self.job = replace(self.job, line=None)
+            self.job = self._decided(self._earlier, self._opened)
         # a book may be changed by being opened, so that its text is read before
         with self._opened_beside() as opened:
             self._characters = characters_in(whole.data)
