@@ -292,6 +292,22 @@ def test_words_that_stand_nowhere_else_are_said_to(reader: Sat) -> None:
     assert sat.lines[-2] == ("“moon” isn't further on; this is the first in the book.")
 
 
+def test_of_cells_it_is_said_that_they_are_nowhere_else_among_the_cells(
+    moon: Path, sit: Sit
+) -> None:
+    with Session(moon) as session:
+        session.add_paragraph("end", "en", "It is far! 6 boats came.")
+    sat = sit(moon)
+    sat.press("tab", "/", "6", "enter")
+    assert (sat.state.chosen, sat.state.place, sat.state.message) == (3, 10, "")
+    sat.press("*")
+    assert sat.state.message == "“6” is nowhere else in the cells of the book."
+    sat.press("/", *",", "enter")
+    assert sat.state.message == (
+        "“,” isn't further on; this is the first in the cells of the book."
+    )
+
+
 def test_what_is_said_again_is_drawn_otherwise(reader: Sat) -> None:
     sat = reader
     nowhere = "“z” isn't in the print of the book."

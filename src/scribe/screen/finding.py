@@ -118,11 +118,13 @@ def _at_found(session: Session, state: State, found: search.Found, count: int) -
     spot, what = found.spot, quoted(state.sought)
     if state.finds_alike:
         what = f"{what} in any form"
+    # the print may have as words what is looked for as cells
+    where = "the cells of the book" if state.pane is Pane.CELLS else "the book"
     said = ""
     if found.is_same:
-        said = f"{what} is nowhere else in the book."
+        said = f"{what} is nowhere else in {where}."
     elif found.is_around:
-        said = f"{what} isn't further on; this is the first in the book."
+        said = f"{what} isn't further on; this is the first in {where}."
     number, span = state.book[spot.chosen].id, Span(spot.place, spot.place + count)
     cells = span if state.pane is Pane.CELLS else cells_of(session, number, span)
     braille = session.braille_of(number)
