@@ -48,7 +48,7 @@ def test_a_place_in_a_struck_paragraph_is_said_to_be_there(moon: Path) -> None:
 
 
 def test_words_that_stand_nowhere_are_said_to(moon: Path) -> None:
-    assert find(moon, "sun") == Ran(0, "", "“sun” isn't in the book.\n")
+    assert find(moon, "sun") == Ran(0, "", "“sun” isn't in the print of the book.\n")
 
 
 def test_words_that_are_otherwise_in_the_book_are_said_to_be_and_shown(
@@ -67,7 +67,9 @@ def test_words_that_are_otherwise_in_the_book_are_said_to_be_and_shown(
         "Found “moon,” 2 times, in one paragraph, with other capitals too.\n",
     )
     assert find(moon, "moon.", "--alike").said == ("Found “moon.” once.\n")
-    assert find(moon, "Mond", "--alike").said == ("“Mond” isn't in the book.\n")
+    assert find(moon, "Mond", "--alike").said == (
+        "“Mond” isn't in the print of the book.\n"
+    )
     assert find(moon, "moon", "--alike", "--braille").status == 1
 
 
@@ -131,6 +133,7 @@ def test_cells_are_found_and_the_print_that_they_stand_for(moon: Path) -> None:
     assert find(moon, "--braille", ",M") == wanted
     assert find(moon, "--braille", "⠠⠍").shown == wanted.shown
     assert find(moon, "--braille", ",m").shown == wanted.shown
+    assert find(moon, ",M").said == "“,M” isn't in the print of the book.\n"
     none = "“zzz” isn't in the cells of the book.\n"
     assert find(moon, "--braille", "zzz") == Ran(0, "", none)
 
@@ -180,7 +183,7 @@ def test_words_are_found_in_normal_form_c(empty_book: Path) -> None:
             "Paragraph 1, character 7: ané an[é] q\u0307n\n"
             "Paragraph 2, character 2: a[e\u0301]\n"
         )
-    assert find(empty_book, "q").said == "“q” isn't in the book.\n"
+    assert find(empty_book, "q").said == "“q” isn't in the print of the book.\n"
     assert find(empty_book, "q\u0307").shown.startswith("Paragraph 1, character 9: ")
 
 

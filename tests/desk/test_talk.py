@@ -264,7 +264,7 @@ def test_a_blank_at_the_end_or_the_front_of_a_line_is_taken(talk: Prompted) -> N
             "Argument PARA: “x” is not a number. It is typed as: change PARA OLD NEW [--nth N]"
             " [--by WHO] [--width N]",
         ),
-        ("find don't", "“don't” isn't in the book."),
+        ("find don't", "“don't” isn't in the print of the book."),
         (
             "find --braille é",
             "Argument TEXT: U+00E9 LATIN SMALL LETTER E WITH ACUTE is no cell in Braille ASCII or"

@@ -71,16 +71,18 @@ def cell_lines(
 
 
 def found_summary(
-    text: str, tally: Tally, others: Tally, offer: str, is_of_cells: bool = False
+    text: str, tally: Tally, others: Tally, offer: str, where: str = "the book"
 ) -> str:
-    """What was found, in a sentence, or what else there is that is like it, after an offer."""
+    """What was found, in a sentence, or what else there is that is like it, after an offer.
+
+    It is said where nothing was found.
+    """
     if others.count:
         return (
             f"{quoted(text)} isn't in the book as typed. With {in_words(others.kinds)} it is there"
             f" {_counted(others)}{offer}"
         )
     if not tally.count:
-        where = "the cells of the book" if is_of_cells else "the book"
         return f"{quoted(text)} isn't in {where}."
     too = " too" if tally.has_same else ""
     how = f", with {in_words(tally.kinds)}{too}" if tally.kinds else ""

@@ -90,7 +90,9 @@ def answer(session: Session, arguments: Namespace, console: Console) -> None:
             console.show(*word_lines(hit, width, at))
         if not (tally.count or arguments.alike):
             others = tallied(find_words(session, text, alike), text)
-    summary = found_summary(text, tally, others, _OFFER, arguments.braille)
+    # the cells may have what the print has not, and the print what they have not
+    its = f"the {'cells' if arguments.braille else 'print'} of the book"
+    summary = found_summary(text, tally, others, _OFFER, its)
     console.say(summary, *not_laid_out(pages))
 
 
