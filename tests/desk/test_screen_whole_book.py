@@ -139,6 +139,21 @@ def test_places_are_changed_and_left_one_by_one(tides: Path, sit: Sit) -> None:
     assert prints(tides) == ["The tide", TIDES.replace("The tide", "The flood")]
 
 
+@pytest.mark.parametrize("last", ["y", "a"])
+def test_the_cursor_is_on_the_place_at_which_one_change_is_taken_back(
+    tides: Path, sit: Sit, last: str
+) -> None:
+    sat = sit(tides)
+    asked(sat, "tide", "flood")
+    sat.press("n", "n", last, "escape")
+    assert (sat.state.chosen, sat.state.place) == (0, 0)
+    sat.press("u")
+    assert (sat.state.chosen, sat.state.place) == (1, TIDES.index("tideway"))
+    assert sat.state.message.startswith("Taken back: ") and not sat.state.deeds
+    sat.desk.close()
+    assert prints(tides) == ["The tide", TIDES]
+
+
 def test_what_was_done_last_is_said_also_once_something_later_was_taken_back(
     tides: Path, sit: Sit
 ) -> None:

@@ -199,13 +199,15 @@ def deed_of(action: OfWholeBook, changed: Sequence[int]) -> Deed:
         count = counted(len(changed), "paragraph")
         return Deed(f"volumes were set at {count}", were)
     back = tuple(map(requests.Undo, reversed(changed)))
+    # one change is shown where it is taken back, as that of an edit
+    only = changed[0] if len(changed) == 1 else None
     if not isinstance(action, ChangePlaces) or action.nth is not None:
-        return Deed(f"paragraph {changed[-1]} was corrected", back)
+        return Deed(f"paragraph {changed[-1]} was corrected", back, paragraph=only)
     count_of = Count(action.wanted)
     for number in changed:
         count_of.add_change(number)
     what = count_of.changed_in_words().removesuffix(".")
-    return Deed(what, back, wanted=action.wanted)
+    return Deed(what, back, paragraph=only, wanted=action.wanted)
 
 
 def _found(session: Session, state: State, action: FindPlaces) -> State:
