@@ -233,6 +233,26 @@ def test_the_cursor_is_on_the_words_of_a_mark_that_is_put_again_in_another_parag
     assert there in sat.lines
 
 
+@pytest.mark.parametrize(
+    "pane, there",
+    [
+        ("", "“f” ⠋, character 13, cell 14"),
+        ("tab", "⠋ “f”, cell 14, character 13"),
+    ],
+)
+def test_the_cursor_is_on_the_words_of_a_mark_that_is_taken_back_in_another_paragraph(
+    moon: Path, sit: Sit, pane: str, there: str
+) -> None:
+    sat = sit(moon)
+    sat.press("/", *"far", "enter", "m", *"how far?", "enter", "c-end")
+    sat.press(*pane.split(), "u")
+    assert sat.state.message == (
+        "Taken back: mark 2 was put. The book keeps it, resolved."
+    )
+    assert there in sat.lines
+    assert "Mark 2, resolved, on “far”: how far?" in sat.lines
+
+
 def test_a_mark_is_taken_back_by_resolving_it_and_that_by_a_new_one(
     moon: Path, sit: Sit
 ) -> None:

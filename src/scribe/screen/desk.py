@@ -987,7 +987,7 @@ class Desk:
         first = deed.back[0]
         if deed.paragraph is not None:
             found = at_paragraph(state, deed.paragraph)
-            if found.chosen != state.chosen and isinstance(first, requests.Mark):
+            if found.chosen != state.chosen:
                 found = at_words_of(self._session, found, first)
             state = refreshed(self._session, found)
         if len(deed.back) > 1:

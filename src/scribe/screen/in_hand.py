@@ -4,10 +4,12 @@ Before a new one is put, its note is asked for, and the words are said on which 
 """
 
 from dataclasses import replace
+from typing import Any
 
 from braildesk import Mark, Session, requests
 from braildesk.desk.places import words_of
 from braildesk.desk.search import Found, Spot
+from braildesk.protocol.requests import Command
 from braildesk.text.spans import Span
 
 from scribe.screen.field import Purpose
@@ -40,13 +42,22 @@ def at_mark(state: State, found: Found, is_back: bool, since: Spot) -> State:
     return state.saying(f"Mark {spot.mark} begins here.")
 
 
-def at_words_of(session: Session, state: State, mark: requests.Mark) -> State:
-    """The state with the cursor on the words, or on the cells, on which a mark is about to be put."""
-    cells = Span(mark.cell, mark.cell + mark.count)
-    place = mark.cell
-    if state.pane is Pane.PRINT:
-        words = marked_words(session, mark.paragraph, cells)
-        place = words.start if words is not None else 0
+def at_words_of(session: Session, state: State, command: Command[Any]) -> State:
+    """The state with the cursor on the words, or on the cells, of a mark that a command puts or resolves."""
+    assert state.paragraph is not None
+    number, length = state.paragraph.id, state.paragraph.length
+    place, is_print = state.place, state.pane is Pane.PRINT
+    if isinstance(command, requests.Mark):
+        place = command.cell
+        if is_print:
+            cells = Span(place, place + command.count)
+            words = marked_words(session, number, cells)
+            place = words.start if words is not None else 0
+    elif isinstance(command, requests.Resolve) and length:
+        marks = session.marks_of(number)
+        its = next(each for each in marks if each.id == command.mark)
+        place = min(its.start, length - 1)
+        place = place if is_print else session.output_position(number, place)
     return state.at(state.chosen, place)
 
 
