@@ -134,6 +134,21 @@ def test_what_belongs_to_the_cursor_and_what_is_marked_is_said_in_words_below() 
     ]
 
 
+def test_what_the_cursor_stands_on_takes_a_second_line_where_that_is_free() -> None:
+    text, cells = f"{'x' * 790}LORD", f"{'⠭' * 567}⠠⠠⠐⠇⠕⠗⠙"
+    reading = ParagraphReading(FIRST, text, cells, (MARK,))
+    highlighted = Highlighted(Span(790, 791), Span(567, 571))
+    its = replace(STATE, reading=reading, place=790, highlighted=highlighted)
+    narrow = replace(its, size=Size(40, 12))
+    line, marked = "“L” ⠠⠠⠐⠇, character 791, cells 568 to", "Marked: “xxxx”."
+    said = ["Mark 1 is resolved. No mark is left in", "the book that is open still."]
+    assert draw(narrow).texts()[7:11] == [line, "571", marked, ""]
+    drawn = draw(narrow.saying(said[0][:19])).texts()
+    assert drawn[7:11] == [line, "571", marked, said[0][:19]]
+    drawn = draw(narrow.saying(" ".join(said))).texts()
+    assert drawn[7:11] == [f"{line}…", marked, *said]
+
+
 def test_all_marked_words_of_the_paragraph_are_named_in_their_order_in_one_line() -> (
     None
 ):

@@ -363,7 +363,8 @@ def _below(state: State, room: int, count: int) -> list[str]:
     rest = max(0, room - least - len(said))
     # one row of the marks is seen beside whatever is said
     marks = _mark_lines(state, _marks(state), min(max(1, count - 1 - len(said)), rest))
-    place = _place_lines(state)[: rest - len(marks)]
+    left = min(rest, count - len(said)) - len(marks)
+    place = _place_lines(state, left)[: rest - len(marks)]
     free = count - len(place) - len(marks) - len(said)
     return [*place, *marks, *[""] * free, *said]
 
@@ -393,8 +394,11 @@ def _message(state: State, most: int) -> list[str]:
     return _at_most(question_rows.said(state, most), most, state.size.columns)
 
 
-def _place_lines(state: State) -> list[str]:
-    """In words: what the cursor stands on, or which paragraph is edited."""
+def _place_lines(state: State, most: int = 1) -> list[str]:
+    """In words: what the cursor stands on, or which paragraph is edited.
+
+    There is one line, or as many as that needs if these are no more than there is room for.
+    """
     typed, reading = state.typed, state.reading
     if typed is not None and typed.purpose is Purpose.EDIT and reading is not None:
         said = f"You are editing paragraph {reading.paragraph.id}."
@@ -406,7 +410,8 @@ def _place_lines(state: State) -> list[str]:
     if is_print or reading is None or state.highlighted is None:
         return [""]
     line = _cursor_in_words(state, reading, state.highlighted)
-    return [opening(line, state.size.columns)]
+    lines = wrap(line, state.size.columns)
+    return lines if len(lines) <= most else [opening(line, state.size.columns)]
 
 
 def _marks(state: State) -> tuple[Mark, ...]:
