@@ -546,11 +546,11 @@ def test_a_text_that_was_changed_since_is_not_imported_before_that_is_decided(
     killed: Path,
 ) -> None:
     (killed.parent / "text.txt").write_text("Other")
-    for words in ("", "--continue"):
+    for words in ("", "--continue", "--from 1"):
         found = again(killed, *words.split())
         assert found.status == 2 and found.said.endswith(
-            "\n--from goes on at a line of the text, --again types all of it, and --leave leaves"
-            " the rest out. Nothing was typed.\n"
+            "\n--from goes on at a line of the text after its first paragraph, --again types all"
+            " of it, and --leave leaves the rest out. Nothing was typed.\n"
         )
     assert again(killed, "--again").status == 0
     assert prints(killed)[-1] == "Other"
@@ -563,8 +563,8 @@ def test_a_document_that_was_changed_since_may_go_on_at_one_of_its_paragraphs(
     Drafts(killed).begin_import(replace(begun(killed), how=how))
     (killed.parent / "text.txt").write_text("Other")
     assert again(killed).said.endswith(
-        "\n--from goes on at a paragraph of the document, --again types all of it, and --leave"
-        " leaves the rest out. Nothing was typed.\n"
+        "\n--from goes on at a paragraph of the document after the first, --again types all of it,"
+        " and --leave leaves the rest out. Nothing was typed.\n"
     )
 
 

@@ -370,7 +370,9 @@ def not_imported(problem: NotImported) -> Stop:
         case PartUnseen(fault=fault):
             kind = fault.note.how.reading.kind
             is_document = kind is not None and kind.is_document
-            unit = "paragraph of the document" if is_document else "line of the text"
+            unit = "line of the text after its first paragraph"
+            if is_document:
+                unit = "paragraph of the document after the first"
             options = (
                 f"--from goes on at a {unit}, --again types all of it, and --leave leaves the rest"
                 " out."
