@@ -79,7 +79,7 @@ _CHANGED = (
 KEYS_OF_PLACES = (
     "y: changes this place",
     "n: leaves this place as it is",
-    "a: changes this place and the others",
+    "a: changes all places but those left",
     "w: whole words alone, or parts of words too",
     "c: with other capitals too, or not",
     "Enter: goes there",
