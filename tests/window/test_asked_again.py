@@ -27,7 +27,8 @@ _NO_SIZE = (
     " between them, as in 40 25."
 )
 _NO_PAGE = "Volume 1 has 1 page of 25 lines of 40 cells. The caret stays where it was."
-_NOWHERE = "“zebra” stands nowhere in the book."
+_NOWHERE = "“zebra” isn't in the print of the book."
+_IN_NO_CELLS = "“The Moon” isn't in the cells of the book."
 _NO_CELL = (
     "U+00E9 LATIN SMALL LETTER E WITH ACUTE is no cell in Braille ASCII or Unicode."
 )
@@ -69,6 +70,16 @@ def _ends(window: Reader, book: Path) -> None:
     [
         ("F2", "Ctrl+f", "Find", "Words:", "zebra", _NOWHERE, "sea", _THERE),
         ("F8", "Ctrl+f", "Find", _CELLS, "é", _NO_CELL, "sea", "Paragraph 3, cell 18."),
+        (
+            "F8",
+            "Ctrl+f",
+            "Find",
+            _CELLS,
+            "The Moon",
+            _IN_NO_CELLS,
+            "sea",
+            "Paragraph 3, cell 18.",
+        ),
         *(
             ("F2", "Ctrl+g", "Go to", _PLACE, answer, why, "sea", _THERE)
             for answer, why in (

@@ -148,7 +148,7 @@ def test_words_are_found_changed_and_marked(moon: Path, at: Open) -> None:
     window.reads("Message", "Kept: mark 2.")
     window.reads("Marks", "Mark 2, open, on “sea”: which")
     window.press("F3")
-    window.reads("Message", "“sea” stands nowhere else in the book.")
+    window.reads("Message", "“sea” stands nowhere else in the print of the book.")
     window.press("Escape")
     window.press("Ctrl+h")
     window.dialog("Change words")

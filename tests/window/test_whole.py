@@ -429,11 +429,16 @@ def test_words_that_are_there_otherwise_are_said_to_be_until_they_are_not(
         f"{there} This is the first in the book: there is none further on."
     )
     desk.act("find")
-    assert desk.window.message.text == f"{there} It stands nowhere else in the book."
+    assert desk.window.message.text == (
+        f"{there} It stands nowhere else in the print of the book."
+    )
     # from now on the words stand there as they were typed
     desk.do(requests.Correct(3, 16, 3, "SEA"))
     desk.act("find_next")
-    assert desk.window.message.text == "“SEA” stands nowhere else in the book."
+    assert (
+        desk.window.message.text
+        == "“SEA” stands nowhere else in the print of the book."
+    )
     desk.choose(2, 20)
     desk.act("find_next")
     assert desk.window.message.text == (
@@ -580,6 +585,10 @@ def test_the_place_of_cells_that_are_found_is_said_and_marked_there(
     desk.act("find")
     assert desk.window.message.text == "Paragraph 3, cell 18."
     assert "character 17, cell 18." in desk.window.here.text
+    desk.window.cells.setFocus()
+    desk.act("find_next")
+    alone = f"“{given['text']}” stands nowhere else in the cells of the book."
+    assert desk.window.message.text == alone
     asked = list[str]()
 
     def further(over: object, title: str, sentence: str, *_: object) -> str:
@@ -614,7 +623,10 @@ def test_page_and_line_are_said_of_what_is_gone_to(desk: Desk, given: Answers) -
     desk.act("pages_said")
     assert desk.window.message.text == "Now F4, Ctrl+F and F3 say no page and line."
     desk.act("find_next")
-    assert desk.window.message.text == "“day” stands nowhere else in the book."
+    assert (
+        desk.window.message.text
+        == "“day” stands nowhere else in the print of the book."
+    )
     # a note need not end with a stop
     desk.act("pages_said")
     desk.do(requests.Mark(3, 0, 1, "hour"))

@@ -82,7 +82,7 @@ class Finding:
             )
             self._finds_alike = found is not None
         if found is None:
-            raise NoAnswer(f"{quoted(sought)} stands nowhere in the book.")
+            raise NoAnswer(f"{quoted(sought)} isn't in {_where(is_cells)}.")
         self._at_found(found, is_cells)
 
     def _place(self, is_cells: bool) -> int:
@@ -107,9 +107,9 @@ class Finding:
         if is_otherwise:
             said = f"{said} It stands there otherwise than as it was typed."
         if found.is_same and is_otherwise:
-            said = f"{said} It stands nowhere else in the book."
+            said = f"{said} It stands nowhere else in {_where(is_cells)}."
         elif found.is_same:
-            said = f"{quoted(self.sought)} stands nowhere else in the book."
+            said = f"{quoted(self.sought)} stands nowhere else in {_where(is_cells)}."
         elif found.is_around:
             said = f"{said} This is the first in the book: there is none further on."
         say_there(desk, said)
@@ -130,3 +130,8 @@ class Finding:
         form = alike if self._finds_alike else composed
         spans = find_spans(reading.its.text, self.sought, form)
         return next((each for each in spans if each.start == place), None)
+
+
+def _where(is_cells: bool) -> str:
+    """Where something is looked for, which may be elsewhere: in a note, or in the other of the two."""
+    return f"the {'cells' if is_cells else 'print'} of the book"
