@@ -51,6 +51,9 @@ def test_a_file_that_is_pasted_is_imported_once_that_is_asked(
     assert given["said"] == [asked]
     assert desk.window.message.text == "Nothing was typed."
     assert desk.window.print.text == "The Moon"
+    desk.window.print.put_in("x")
+    assert desk.window.message.text == ""
+    desk.act("give_up")
     pasted(desk, Urls=urls)
     assert prints_of(desk)[:3] == ["The Moon", "One.", "Two."]
 
@@ -63,6 +66,8 @@ def test_of_several_files_that_are_pasted_none_is_typed(
     said = "2 files were pasted, and nothing was typed. Ctrl+I imports one at a time."
     assert desk.window.message.text == said
     assert not desk.is_typed()
+    pasted(desk, Text="x")
+    assert (desk.is_typed(), desk.window.message.text) == (True, "")
 
 
 def test_an_address_that_is_pasted_is_typed(desk: Desk, given: Answers) -> None:
@@ -78,6 +83,9 @@ def test_what_has_no_text_is_said_not_to_be_pasted(desk: Desk) -> None:
         "There is no text to put in, so nothing was typed."
     )
     assert not desk.is_typed()
+    # which is so no more once something is
+    pasted(desk, Text="x")
+    assert (desk.is_typed(), desk.window.message.text) == (True, "")
 
 
 @pytest.mark.parametrize(
@@ -465,6 +473,7 @@ def test_more_than_can_be_typed_is_said_to_be_kept_elsewhere_and_changes_nothing
     # as much as there is room for is typed
     pasted(desk, Text="a" * 99_992)
     assert len(desk.window.print.text) == 100_000
+    assert desk.window.message.text == ""
     desk.act("give_up")
 
 
@@ -488,6 +497,10 @@ def test_what_is_dropped_and_is_too_much_can_be_brought_back(
     lines = given_up.text.split("\n")
     assert "".join(lines).replace(" ", "") == text.replace(" ", "")
     assert max(map(len, lines)) <= 4_000
+    pasted(desk, Text="x")
+    assert desk.window.message.text == (
+        "The lines aren't in the book. Ctrl+B brings them back."
+    )
 
 
 @pytest.mark.parametrize("part", ["table", "cells"])
@@ -504,3 +517,5 @@ def test_what_is_pasted_where_no_text_is_typed_is_said_to_be_nowhere(
     said = "Nothing was pasted: a text goes into the print. F2 goes there."
     assert desk.window.message.text == said
     assert (desk.window.print.text, desk.contents.version) == ("The Moon", 5)
+    pasted(desk, Text="x")
+    assert desk.window.message.text == ""

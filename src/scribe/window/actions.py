@@ -41,6 +41,8 @@ class Actions:
         field.files_pasted.connect(
             lambda paths: desk.acting(lambda: files.pasted(paths))
         )
-        field.nothing_pasted.connect(lambda: desk.refuse(NO_TEXT))
-        field.too_much_pasted.connect(lambda *found: desk.refuse(too_much(*found)))
+        field.nothing_pasted.connect(lambda: desk.refuse_until_typed(NO_TEXT))
+        field.too_much_pasted.connect(
+            lambda *found: desk.refuse_until_typed(too_much(*found))
+        )
         field.too_much_dropped.connect(typed.keep_dropped)

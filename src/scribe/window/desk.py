@@ -268,7 +268,7 @@ class Desk:
         window.table.activated.connect(lambda _: self.act("to_print"))
         window.table.entered_empty.connect(self._enter_empty)
         window.covered.connect(self._cover)
-        window.pasted.connect(lambda: self.refuse(_NOT_PASTED))
+        window.pasted.connect(lambda: self.refuse_until_typed(_NOT_PASTED))
         window.cells.entered.connect(lambda: self.act("to_print"))
 
     def _look_at_end(self) -> None:
@@ -549,6 +549,11 @@ class Desk:
         else:
             message.put_caret(0)
             QTimer.singleShot(0, self._have_all_read)
+
+    def refuse_until_typed(self, sentence: str) -> None:
+        """Refuses what would be typed, which is so until something is."""
+        self.refuse(sentence)
+        self.until_typed()
 
     def _have_all_read(self) -> None:
         """Has a message of several lines be read, of which a screen reader reads the first one at its focus."""

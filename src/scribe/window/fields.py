@@ -5,6 +5,7 @@ Qt counts places in UTF-16, where a character beyond U+FFFF has two; all others 
 
 import re
 from collections.abc import Callable, Sequence
+from functools import partial
 from pathlib import Path
 
 from PyQt6.QtCore import (
@@ -383,7 +384,7 @@ class Print(Field):
         text = text_of(source)
         self.text_came.emit(text)
         if not text:
-            self.nothing_pasted.emit()
+            self._after_drop(self.nothing_pasted.emit)
             return
         lines = lines_of(text)
         if self._is_too_much(lines):
@@ -405,11 +406,18 @@ class Print(Field):
             (others + sum(found), MOST_OF_LINES),
         ):
             if count > most:
-                self.too_much_pasted.emit(count, most)
+                self._after_drop(partial(self.too_much_pasted.emit, count, most))
                 if self._is_dropped:
-                    QTimer.singleShot(0, lambda: self.too_much_dropped.emit(lines))
+                    self._after_drop(partial(self.too_much_dropped.emit, lines))
                 return True
         return False
+
+    def _after_drop(self, say: Callable[[], None]) -> None:
+        """Says something, after a drop if this is one: Qt tells of another text then, also of the same."""
+        if self._is_dropped:
+            QTimer.singleShot(0, say)
+        else:
+            say()
 
     def _parted(self, lines: list[str], text: str) -> list[str]:
         """Lines of a text, parted by a blank from words here if it has one there or an end of a line."""

@@ -156,13 +156,15 @@ class Files:
         """Asks whether a file that was pasted is imported; its path is no text."""
         desk = self.desk
         if len(paths) > 1:
-            raise Stop(_SEVERAL.format(len(paths), "pasted"))
+            desk.refuse_until_typed(_SEVERAL.format(len(paths), "pasted"))
+            return
         (path,) = paths
         number = desk.number
         where = "" if number is None else f" after paragraph {number}"
         asked = f"{path.name} was pasted. Shall its text be imported{where}?"
         if desk.answer("Import", asked, ("&Yes", "&No")):
             desk.say("Nothing was typed.")
+            desk.until_typed()
         else:
             self.imported(path)
 
@@ -178,7 +180,7 @@ class Files:
     def several_dropped(self, count: int) -> None:
         """Says that of several files that were dropped none is imported."""
         desk, said = self.desk, _SEVERAL.format(count, "dropped")
-        (desk.say_after if desk.is_acting else desk.refuse)(said)
+        (desk.say_after if desk.is_acting else desk.refuse_until_typed)(said)
 
     def imported(self, path: Path, way: Way = Way.ASK) -> None:
         """Types the paragraphs of a text after the chosen one."""

@@ -434,7 +434,7 @@ class Typed:
             field.put_in(joined)
         desk.keep_draft(desk.draft())
         if answer == 1 and count > MOST_OF_ONE:
-            raise Stop(too_much(count, MOST_OF_ONE))
+            desk.refuse_until_typed(too_much(count, MOST_OF_ONE))
         if answer == 2:
             desk.say(self._put_lines_by(lines))
 
