@@ -150,13 +150,14 @@ def asked(monkeypatch: pytest.MonkeyPatch) -> dict[str, int]:
 
 @pytest.fixture
 def given(monkeypatch: pytest.MonkeyPatch) -> Answers:
-    """What is answered to each kind of dialog, and under "said" what was asked and reported."""
-    answers: Answers = {"said": [], "choices": []}
+    """What is answered to each kind of dialog, and under "said" and "titles" what was asked and reported."""
+    answers: Answers = {"said": [], "titles": [], "choices": []}
 
     def choice(
         over: object, title: str, said: str, names: Sequence[str], by_enter: int = 0
     ) -> int:
         answers["said"].append(said)
+        answers["titles"].append(title)
         answers["by_enter"] = names[by_enter]
         return int(answers["choices"].pop(0))
 

@@ -237,7 +237,8 @@ def test_lines_that_are_dropped_stay_where_they_come_from_and_keep_it_waiting_fo
     assert drop.isAccepted() and drop.dropAction() == Qt.DropAction.CopyAction
     assert not given["said"]
     application.processEvents()
-    assert given["said"] == ["2 lines were pasted. Are they paragraphs?"]
+    assert given["said"] == ["2 lines were dropped. Are they paragraphs?"]
+    assert given["titles"] == ["Dropped lines"]
 
 
 def test_lines_go_where_they_were_dropped_though_the_caret_was_moved_before_that_is_asked(
@@ -489,9 +490,10 @@ def test_what_is_dropped_and_is_too_much_can_be_brought_back(
     field.dropEvent(QDropEvent(QPointF(2, 8), offered, data, *hands))
     assert (field.text, desk.draft()) == ("The Moon", None)
     application.processEvents()
+    said = TOO_MUCH.format(110_015, 100_000)
+    said = said.replace("copied", "dropped").replace("pasted", "dropped")
     assert desk.window.message.text == (
-        f"{TOO_MUCH.format(110_015, 100_000)} The lines aren't in the book. Ctrl+B brings them"
-        " back."
+        f"{said} The lines aren't in the book. Ctrl+B brings them back."
     )
     (given_up,) = desk.unsent.texts()
     lines = given_up.text.split("\n")

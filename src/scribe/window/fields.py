@@ -321,9 +321,9 @@ class Print(Field):
     lines_dropped = pyqtSignal(list)
     files_pasted = pyqtSignal(list)
     nothing_pasted = pyqtSignal()
-    #: More was pasted than may be: so many characters, of so many at most; and these lines if it was
-    #: dropped, which some programs have no more by then.
-    too_much_pasted = pyqtSignal(int, int)
+    #: More was pasted than may be: so many characters, of so many at most, and whether it was dropped;
+    #: and these lines if it was, which some programs have no more by then.
+    too_much_pasted = pyqtSignal(int, int, bool)
     too_much_dropped = pyqtSignal(list)
 
     def __init__(self) -> None:
@@ -406,7 +406,8 @@ class Print(Field):
             (others + sum(found), MOST_OF_LINES),
         ):
             if count > most:
-                self._after_drop(partial(self.too_much_pasted.emit, count, most))
+                its = count, most, self._is_dropped
+                self._after_drop(partial(self.too_much_pasted.emit, *its))
                 if self._is_dropped:
                     self._after_drop(partial(self.too_much_dropped.emit, lines))
                 return True

@@ -43,6 +43,7 @@ _NOT_YET = (
 _NOT_ADDED = "This paragraph was empty, and wasn't added."
 # what lines may be
 _PARAGRAPHS, _ONE = "&Paragraphs", "&One paragraph"
+_OF_LINES = (_PARAGRAPHS, _ONE, "&Neither")
 
 
 class Typed:
@@ -354,13 +355,13 @@ class Typed:
         else:
             desk.say(f"Given up. The book is as it was. {desk.put_by(draft)}")
 
-    def take_lines(self, lines: Sequence[str]) -> None:
+    def take_lines(self, lines: Sequence[str], is_dropped: bool = False) -> None:
         """Asks about lines that were pasted or dropped, unless something else is being done by then."""
         desk = self.desk
         if desk.is_acting:
             desk.say_after(self._put_dropped_by(lines))
         else:
-            desk.acting(lambda: self.pasted(lines))
+            desk.acting(lambda: self.pasted(lines, is_dropped))
 
     def take_dropped(self, lines: Sequence[str]) -> None:
         """Asks where lines were dropped what they are, for which their program doesn't wait."""
@@ -369,12 +370,12 @@ class Typed:
 
         def take() -> None:
             if desk.is_acting:
-                self.take_lines(lines)
+                self.take_lines(lines, True)
             elif (desk.number, desk.new) != there or field.isReadOnly():
                 desk.refuse(self._put_dropped_by(lines))
             else:
                 field.setTextCursor(caret)
-                self.take_lines(lines)
+                self.take_lines(lines, True)
 
         QTimer.singleShot(0, take)
 
@@ -397,8 +398,8 @@ class Typed:
             said = self._put_lines_by(pieces)
             (desk.say_after if desk.is_acting else desk.say_too)(said)
 
-    def pasted(self, lines: Sequence[str]) -> None:
-        """Asks what lines are that were pasted where the caret is.
+    def pasted(self, lines: Sequence[str], is_dropped: bool = False) -> None:
+        """Asks what lines are that were pasted, or dropped, where the caret is.
 
         The last one is empty if the one before it was ended.
         """
@@ -408,8 +409,8 @@ class Typed:
         table = desk.table_of_typed() or ""
         tables = desk.book.tables
         fault = desk.ahead.result(lambda: tables.first_fault(table, lines))
-        asked = f"{sum(map(bool, lines)):,} lines were pasted. Are they paragraphs?"
-        answers = (_PARAGRAPHS, _ONE, "&Neither")
+        how = "dropped" if is_dropped else "pasted"
+        asked = f"{sum(map(bool, lines)):,} lines were {how}. Are they paragraphs?"
         said = f"{fault} {asked}".strip()
         whole, selected = desk.typed_text(), field.selected
         front, back = whole[: selected.start], whole[selected.stop :]
@@ -417,7 +418,7 @@ class Typed:
         paragraphs = lines[:-1] if is_before else _between(front, lines, back)
         # until that is answered the lines wait as paragraphs
         self._wait(self._draft_of(paragraphs, Aim.BEFORE if is_before else None))
-        answer = desk.answer("Pasted lines", said, answers)
+        answer = desk.answer(f"{how.title()} lines", said, _OF_LINES)
         if desk.is_ending:
             return
         desk.beside = None
@@ -434,7 +435,7 @@ class Typed:
             field.put_in(joined)
         desk.keep_draft(desk.draft())
         if answer == 1 and count > MOST_OF_ONE:
-            desk.refuse_until_typed(too_much(count, MOST_OF_ONE))
+            desk.refuse_until_typed(too_much(count, MOST_OF_ONE, is_dropped))
         if answer == 2:
             desk.say(self._put_lines_by(lines))
 
@@ -603,10 +604,11 @@ def _pieces(text: str) -> list[str]:
     return pieces
 
 
-def too_much(count: int, most: int) -> str:
-    """What is said where more is pasted than may be."""
+def too_much(count: int, most: int, is_dropped: bool) -> str:
+    """What is said where more is pasted, or dropped, than may be."""
+    what, how = ("dropped", "dropped") if is_dropped else ("copied", "pasted")
     return (
-        f"With what was copied this would have {count:,} characters, and at most {most:,} can be pasted"
+        f"With what was {what} this would have {count:,} characters, and at most {most:,} can be {how}"
         " here. Nothing was typed. Save the text as a document, such as .odt or .docx: Ctrl+I imports"
         " it, with long paragraphs parted."
     )
