@@ -1256,7 +1256,7 @@ def test_a_window_that_is_told_to_end_says_that_its_file_is_gone_where_nothing_w
     window.program.send_signal(signal.SIGTERM)
     shown, said = window.program.communicate(timeout=120)
     assert (window.program.returncode, shown) == (-signal.SIGTERM, b"")
-    waits = " What was typed and isn't in the book is kept, and is offered when it is next opened."
+    waits = " A text that was typed and isn't in the book is kept, and is offered when the book is next opened."
     assert " ".join(said.decode().split()) == (
         f"Stopped by SIGTERM. The file of the book is no longer at “{moon}”: {what} Nothing was"
         f" changed in it here.{waits * bool(typed)}"

@@ -234,7 +234,7 @@ def test_what_is_typed_in_no_text_while_the_window_waits_is_set_aside(
         window.program.send_signal(number)
         _, said = window.program.communicate(timeout=120)
         assert " ".join(said.decode().split()).endswith(
-            " is kept, and is offered when it is next opened."
+            " is kept, and can be brought back when the book is next opened."
         )
     else:
         kill_both(window, program)
@@ -295,7 +295,8 @@ def test_what_is_pressed_after_the_key_that_closes_does_nothing_and_its_text_is_
     shown, said = window.program.communicate(timeout=120)
     assert shown.decode() == "moon.braildesk is at version 6.\n"
     assert " ".join(said.decode().split()) == (
-        "What was typed and isn't in the book is kept, and is offered when it is next opened."
+        "What was typed last isn't in the book. It is kept, and can be brought back when the book is next"
+        " opened."
     )
     with Session(moon) as session:
         first = session.paragraphs()[0]
@@ -444,7 +445,7 @@ def test_what_another_program_types_while_the_session_ends_is_kept(
         assert [each.text for each in drafts.given_up()] == ["It rose.The Moon"]
         assert (waits, drafts.waiting()) == ("", None)
     else:
-        assert waits.startswith("What was typed and isn't in the book is kept")
+        assert waits.startswith("A text that was typed and isn't in the book is kept")
         waiting = drafts.waiting()
         assert waiting is not None and waiting.text == "It rose.The Moon"
     with Session(moon) as session:

@@ -25,7 +25,7 @@ from reader import PATIENCE_SECONDS, Reader
 from test_cancelled import STAND_IN
 
 # how what is said at the end of a window ends where something waits
-_WAITS = "isn't in the book is kept, and is offered when it is next opened."
+_WAITS = "isn't in the book is kept, and is offered when the book is next opened."
 
 
 def _waits(window: Reader, book: Path, text: str) -> None:
@@ -270,8 +270,26 @@ def test_a_text_that_is_typed_at_the_offer_of_an_import_leaves_out_nothing_of_it
     window.says("“rest”. Ctrl+B brings it back.")
     window.press("Ctrl+q")
     assert window.end() == 0
-    # it is offered again
-    at(moon, is_waited_for=False).dialog("Import")
+    # it is offered again, and what is said before that is said still once it is answered
+    window = at(moon, is_waited_for=False)
+    window.top = window.dialog("Import")
+    window.type("It rose.")
+    window.until("what was typed", lambda: _unread(moon) == "It rose.")
+    window.program.send_signal(signal.SIGTERM)
+    _, said = window.program.communicate(timeout=PATIENCE_SECONDS)
+    assert " ".join(said.decode().split()).endswith(
+        "What was typed last isn't in the book. It is kept, and can be brought back when the book is"
+        " next opened."
+    )
+    window = at(moon, is_waited_for=False)
+    window.top = window.dialog("Import")
+    window.press("Alt+r")
+    window.no_dialog()
+    window.opened()
+    window.says(
+        "The rest of text.txt is left out. What is in the book stays there. What was typed where no text"
+        " was asked for is set aside: “It rose.”. Ctrl+B brings it back."
+    )
 
 
 def test_a_session_that_was_killed_is_opened_again_and_the_text_stays(
@@ -431,7 +449,7 @@ def test_a_window_is_ended_also_while_the_program_does_not_answer(
     window.program.send_signal(signal.SIGTERM)
     shown, errors = window.program.communicate(timeout=120)
     assert shown == b""
-    waits = "What was typed and isn't in the book is kept, and is offered when it is next opened."
+    waits = "A text that was typed and isn't in the book is kept, and is offered when the book is next opened."
     whole = f"{said} {waits}" if typed else said
     assert " ".join(errors.decode().split()) == whole
     assert window.program.returncode == (3 if key else -signal.SIGTERM)
@@ -579,7 +597,7 @@ def test_where_the_x_server_ends_what_is_typed_is_kept_and_that_is_said(
     shown, said = window.program.communicate(timeout=PATIENCE_SECONDS)
     assert (window.program.returncode, shown) == (3, b"")
     sentence = f"{_SCREEN_GONE} What was reported as kept is in the book."
-    waits = " What was typed and isn't in the book is kept, and is offered when it is next opened."
+    waits = " A text that was typed and isn't in the book is kept, and is offered when the book is next opened."
     assert (sentence + waits * bool(typed)) in " ".join(said.decode().split())
     waiting = Drafts(moon).waiting()
     assert (waiting.text if waiting else "") == typed

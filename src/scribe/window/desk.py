@@ -106,7 +106,12 @@ _ONLY_HERE = (
 # lost by that
 _OF_CLOSING = "&Close", "&Stay"
 _STAYS = 1
-_WAITS = "What was typed and isn't in the book is kept, and is offered when it is next opened."
+# others may be among those that were given up, or were typed where no key types anything
+_WAITS = "A text that was typed and isn't in the book is kept, and is offered when the book is next opened."
+_IS_ASIDE = (
+    "What was typed last isn't in the book. It is kept, and can be brought back when the book is next"
+    " opened."
+)
 _UNKEPT = "This was typed, and could not be kept:"
 # so many letters are no text where letters are keys
 _FEW = 3
@@ -1262,8 +1267,9 @@ class Desk:
             unkept.append(held.text_of_all if held is not None else "")
         if unkept:
             return f"{_UNKEPT} {visible(' '.join(unkept))}"
-        waits = draft or held or (self._is_offering and self.unsent.waiting)
-        return _WAITS if waits else ""
+        if draft or self._is_offering and self.unsent.waiting:
+            return _WAITS
+        return _IS_ASIDE if held else ""
 
     @property
     def strayed(self) -> str:

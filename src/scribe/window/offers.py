@@ -62,19 +62,20 @@ class Offers:
         waiting = desk.unsent.waiting
         if waiting is not None:
             self._offer_first(waiting)
-            if visible(notices) not in desk.window.message.text:
-                desk.say_too(notices)
         contents = desk.contents
         for each in self._to_go_on(contents.paragraphs):
             match each:
                 case Unfinished():
-                    desk.say(came_to(each))
+                    desk.say_too(came_to(each))
                     self._files.decide(Path(each.note.text), PartIsThere(each), True)
                 case NotSeen():
                     desk.say_too(not_seen_yet(each, "Ctrl+I"))
                 case NotKept():
                     desk.say_too(not_kept(each))
         self._offer_changes()
+        if visible(notices) not in desk.window.message.text:
+            # something was asked, and what became of that stands there
+            desk.say_too(notices)
 
     def _to_go_on(
         self, book: Sequence[Paragraph]
