@@ -225,6 +225,26 @@ def test_an_offer_is_answered_by_keys_that_type_nothing(moon: Path, at: Open) ->
         assert [each.text for each in Drafts(moon).given_up()] == [soon.text]
 
 
+def test_the_key_of_a_new_paragraph_is_no_answer_to_an_offer(
+    moon: Path, at: Open
+) -> None:
+    soon = Draft(Aim.EDIT, 1, "en", "The Moon", "The Moon rose.", None, 5)
+    Drafts(moon).save(soon)
+    window = at(moon, is_waited_for=False)
+    window.top = window.dialog("Unsent text")
+    window.press("Ctrl+Return")
+    window.type("It set. ")
+    window.press("Return", "Return")
+    window.no_dialog()
+    window.opened()
+    window.says(" set aside: “It set.”. Ctrl+B brings it back.")
+    window.reads("Print", "The Moon")
+    window.press("Ctrl+q")
+    assert window.end() == 0
+    waiting = Drafts(moon).waiting()
+    assert waiting is not None and waiting.text == soon.text
+
+
 def test_what_dead_keys_make_at_an_offer_belongs_to_the_text_typed_there(
     application: QApplication,
 ) -> None:

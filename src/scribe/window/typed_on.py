@@ -244,6 +244,9 @@ class _Blind(QObject):
             self._is_gone_to = False
         elif key == Qt.Key.Key_Backspace and text:
             return text[:-1]
+        elif key in ENTER and pressed.modifiers() & Qt.KeyboardModifier.ControlModifier:
+            # so hands begin a paragraph that don't know yet of the question
+            return text if text.endswith("\n") else f"{text}\n"
         elif key in ENTER and text.strip() and not self._is_gone_to:
             # a second one gives the answer that does least
             return None if text.endswith("\n") else f"{text}\n"
