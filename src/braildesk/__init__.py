@@ -30,8 +30,8 @@ and runs the program, ``files`` reads tables and versions of books, and ``pipe``
 from a session of the program. ``watch`` tells that another program had a file open for writing,
 ``openfile`` sees to the file of a session, ``beginning`` starts its program, ``rescue`` says what
 became of the file and saves the book from it, ``asking`` has a method for each request, and
-``session`` is the session. ``making`` makes new books and copies, and ``snapshot`` copies a book
-that another program has open.
+``session`` is the session. ``snapshot`` copies a book that another program has open, and ``making``
+makes new books and copies.
 """
 
 from importlib import import_module

@@ -31,6 +31,7 @@ from braildesk.desk.layout import PageSize
 
 from scribe.window import dialogs, typed_on
 from scribe.window.desk import Desk
+from scribe.window.fields import Read
 from scribe.window.files import Files
 from scribe.window.held import Held
 from scribe.window.worker import Worker
@@ -687,7 +688,8 @@ def _at_report(does: Callable[[QWidget, QWidget], None]) -> None:
 
     def look() -> None:
         lines, dialog = QApplication.focusWidget(), QApplication.activeModalWidget()
-        if lines is not None and dialog is not None and lines.window() is dialog:
+        # on a busy machine it is said before how far the work came
+        if isinstance(lines, Read) and dialog is not None and lines.window() is dialog:
             does(lines, dialog)
         else:
             QTimer.singleShot(10, look)
