@@ -119,7 +119,9 @@ def test_whole_words_alone(moons: Path) -> None:
     assert changed(moons, "mooon", "sun", "--words", "--in", "2").status == 0
     assert prints(moons)[1] == "A mooonlit sun"
     assert changed(moons, "moo", "sun", "--words") == Ran(
-        2, "", "“moo” isn't in the book as whole words. Nothing was changed.\n"
+        2,
+        "",
+        "“moo” isn't in the print of the book as whole words. Nothing was changed.\n",
     )
 
 
@@ -144,7 +146,7 @@ def test_ss_is_no_other_capital_of_another_letter(empty_book: Path) -> None:
         assert changed(empty_book, old, "Wege", "--case") == Ran(
             2,
             "",
-            f"“{old}” isn't in the book as typed. With {how} it is there once. Nothing was"
+            f"“{old}” isn't in the print of the book as typed. With {how} it is there once. Nothing was"
             " changed.\n",
         )
 
@@ -275,11 +277,15 @@ def test_an_answer_for_all_the_rest_and_the_end_of_the_input(
 @pytest.mark.parametrize(
     "words, status, sentence",
     [
-        (("sun", "moon"), 2, "“sun” isn't in the book. Nothing was changed."),
+        (
+            ("sun", "moon"),
+            2,
+            "“sun” isn't in the print of the book. Nothing was changed.",
+        ),
         (
             ("MOOON", "moon"),
             2,
-            "“MOOON” isn't in the book as typed. With other capitals it is there 5 times, in 3"
+            "“MOOON” isn't in the print of the book as typed. With other capitals it is there 5 times, in 3"
             " paragraphs; --case changes other capitals too. Nothing was changed.",
         ),
         (

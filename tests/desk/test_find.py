@@ -57,7 +57,7 @@ def test_words_that_are_otherwise_in_the_book_are_said_to_be_and_shown(
     assert find(moon, "MOON") == Ran(
         0,
         "",
-        "“MOON” isn't in the book as typed. With other capitals it is there 4 times, in 2"
+        "“MOON” isn't in the print of the book as typed. With other capitals it is there 4 times, in 2"
         " paragraphs; --alike shows where.\n",
     )
     assert find(moon, "moon,", "--alike") == Ran(
@@ -79,7 +79,7 @@ def test_letters_that_are_written_otherwise_are_not_said_to_be_capitals(
     with Session(empty_book) as session:
         session.put_table("ueb", (FOLDER / "ueb.utb").read_bytes())
         session.add_paragraph("end", "ueb", "Die Straße, die Maße")
-    nowhere = "“{}” isn't in the book as typed. With {} it is there once; --alike shows where.\n"
+    nowhere = "“{}” isn't in the print of the book as typed. With {} it is there once; --alike shows where.\n"
     for sought, how in (
         ("Strasse", "a letter written otherwise"),
         ("STRASSE", "other capitals and a letter written otherwise"),

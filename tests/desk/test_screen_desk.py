@@ -268,7 +268,7 @@ def test_words_and_cells_are_found_and_found_again(reader: Sat) -> None:
     assert spots == [(0, 13), (0, 16), (0, 18), (2, 6), (2, 9), (2, 18)]
     sat.press("*")
     assert (sat.state.chosen, sat.state.place) == (0, 13)
-    around = "“a” isn't further on; this is the first in the book."
+    around = "“a” isn't further on; this is the first in the print of the book."
     assert around in sat.lines
     sat.press("tab", "/")
     sat.write("tides")
@@ -286,10 +286,12 @@ def test_words_that_stand_nowhere_else_are_said_to(reader: Sat) -> None:
     assert (sat.state.chosen, sat.state.place, sat.state.message) == (1, 4, "")
     sat.press("*")
     assert (sat.state.chosen, sat.state.place) == (1, 4)
-    assert sat.lines[-2] == "“Tides” is nowhere else in the book."
+    assert sat.lines[-2] == "“Tides” is nowhere else in the print of the book."
     sat.press("/", *"moon", "enter")
     assert (sat.state.chosen, sat.state.place) == (0, 4)
-    assert sat.lines[-2] == ("“moon” isn't further on; this is the first in the book.")
+    assert sat.lines[-2] == (
+        "“moon” isn't further on; this is the first in the print of the book."
+    )
 
 
 def test_of_cells_it_is_said_that_they_are_nowhere_else_among_the_cells(
@@ -342,7 +344,7 @@ def test_words_that_are_otherwise_in_the_book_are_offered_and_gone_to(
     sat = sit(moon)
     sat.press("right", "/", *sought, "enter")
     assert sat.state.message == (
-        f"“{sought}” isn't in the book as typed; with {how} it is in paragraph"
+        f"“{sought}” isn't in the print as typed; with {how} it is in paragraph"
         f" {place[0] + 1}: * goes there."
     )
     assert (sat.state.chosen, sat.state.place) == (0, 1)
@@ -350,9 +352,12 @@ def test_words_that_are_otherwise_in_the_book_are_offered_and_gone_to(
     assert (sat.state.chosen, sat.state.place) == place
     assert sat.state.message == ""
     sat.press("*")
-    assert sat.state.message == f"“{sought}” in any form is nowhere else in the book."
+    assert (
+        sat.state.message
+        == f"“{sought}” in any form is nowhere else in the print of the book."
+    )
     sat.press("/", *sought, "enter")
-    assert "isn't in the book as typed" in sat.state.message
+    assert "isn't in the print as typed" in sat.state.message
 
 
 def test_the_page_is_that_of_the_export(reader: Sat, moon: Path) -> None:

@@ -461,7 +461,7 @@ def test_a_long_refusal_leaves_room_for_the_book() -> None:
 def test_what_is_said_is_seen_whole_beside_the_chosen_paragraph(
     size: tuple[int, int]
 ) -> None:
-    said = "“Moon” isn't in the book as typed; with other capitals it is in paragraph 1: * goes there."
+    said = "“Moon” isn't in the print as typed; with other capitals it is in paragraph 1: * goes there."
     for typed in (None, Field(Purpose.NOTE, "why?", 4), Field(Purpose.EDIT, "The", 3)):
         drawn = draw(replace(STATE, size=Size(*size), message=said, typed=typed))
         lines = drawn.texts()
@@ -470,7 +470,7 @@ def test_what_is_said_is_seen_whole_beside_the_chosen_paragraph(
             assert lines[2:] == [
                 "The moon is far",
                 "“Moon” isn't in the",
-                "book as typed; with",
+                "print as typed; with",
                 "other capitals it is",
                 "in paragraph 1: *…",
                 "Note of… why?",

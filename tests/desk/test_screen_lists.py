@@ -118,7 +118,7 @@ def test_page_and_line_of_what_is_gone_to_are_said_where_that_is_wanted(
     assert sat.state.message == "Volume 2, page 1 line 2."
     sat.press("/", *"The Moon", "enter")
     assert sat.state.message == (
-        "“The Moon” isn't further on; this is the first in the book. Volume 1, page 1 line 1."
+        "“The Moon” isn't further on; this is the first in the print of the book. Volume 1, page 1 line 1."
     )
     sat.press("/", *"nowhere", "enter")
     assert sat.state.message == "“nowhere” isn't in the print of the book."

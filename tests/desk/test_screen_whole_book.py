@@ -366,7 +366,10 @@ def test_words_that_stand_nowhere_are_said_and_those_with_other_capitals_are_sho
     sat = sit(tides)
     asked(sat, "ebb", "flood")
     assert sat.state.pages is None
-    assert sat.state.message == "“ebb” isn't in the book. Nothing was changed."
+    assert (
+        sat.state.message
+        == "“ebb” isn't in the print of the book. Nothing was changed."
+    )
     asked(sat, "THE END", "the rest")
     assert sat.state.message == ("These have other capitals. After shows what comes.")
     asked_for = sat.state.pages

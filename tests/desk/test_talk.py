@@ -149,9 +149,9 @@ def test_words_count_from_1_and_say_that_requests_do_not(talk: Prompted) -> None
 
 def test_words_that_stand_otherwise_are_shown(talk: Prompted) -> None:
     assert talk.type("find MOON") == [
-        "“MOON” isn't in the book as typed. With",
-        "other capitals it is there once; --alike",
-        "shows where.",
+        "“MOON” isn't in the print of the book as",
+        "typed. With other capitals it is there",
+        "once; --alike shows where.",
     ]
     talk.type("change 1", ": ")
     assert talk.type("FAR", ": ")[:3] == [

@@ -173,7 +173,7 @@ def test_words_to_change_everywhere_are_asked_for_again_as_they_were_typed(
     window.press("Tab")
     window.type("x")
     window.press("Tab", " ", "Return")
-    why = "“zebra” isn't in the book as whole words. Nothing was changed."
+    why = "“zebra” isn't in the print of the book as whole words. Nothing was changed."
     asked = f"{why} Words to change:"
     line = _line(window, title, asked)
     assert window.text_in(line) == "zebra"

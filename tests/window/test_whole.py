@@ -105,7 +105,7 @@ def test_places_that_are_left_are_not_said_to_be_none_where_only_words_are_looke
     given["fields"] = ["o", "oo"], [True, False]
     desk.act("change_all")
     assert desk.window.message.text == (
-        "“o” isn't in the book as whole words. Nothing was changed."
+        "“o” isn't in the print of the book as whole words. Nothing was changed."
     )
     assert desk.drafts.changes() == (note,)
 
@@ -268,10 +268,10 @@ def test_places_that_are_refused_are_said_and_stay(desk: Desk, given: Answers) -
 @pytest.mark.parametrize(
     "fields, said",
     [
-        (["sun", "x"], "“sun” isn't in the book."),
+        (["sun", "x"], "“sun” isn't in the print of the book."),
         (
             ["MOON", "x"],
-            "“MOON” isn't in the book as typed. With other capitals it is there once. Nothing",
+            "“MOON” isn't in the print of the book as typed. With other capitals it is there once. Nothing",
         ),
         (
             ["Moon", "Moon"],
@@ -426,7 +426,7 @@ def test_words_that_are_there_otherwise_are_said_to_be_until_they_are_not(
     desk.choose(2, 20)
     desk.act("find")
     assert desk.window.message.text == (
-        f"{there} This is the first in the book: there is none further on."
+        f"{there} This is the first in the print of the book: there is none further on."
     )
     desk.act("find")
     assert desk.window.message.text == (
@@ -442,7 +442,7 @@ def test_words_that_are_there_otherwise_are_said_to_be_until_they_are_not(
     desk.choose(2, 20)
     desk.act("find_next")
     assert desk.window.message.text == (
-        "Paragraph 3, character 17. This is the first in the book: there is none further on."
+        "Paragraph 3, character 17. This is the first in the print of the book: there is none further on."
     )
 
 
@@ -618,7 +618,7 @@ def test_page_and_line_are_said_of_what_is_gone_to(desk: Desk, given: Answers) -
     desk.do(requests.Volume(3, True))
     given["text"] = "day"
     desk.act("find")
-    there = "Paragraph 3, character 9. This is the first in the book: there is none further on."
+    there = "Paragraph 3, character 9. This is the first in the print of the book: there is none further on."
     assert desk.window.message.text == f"{there} Volume 2, page 1 line 2."
     desk.act("pages_said")
     assert desk.window.message.text == "Now F4, Ctrl+F and F3 say no page and line."

@@ -107,7 +107,7 @@ def _with_others_alike(session: Session, state: State, sought: str) -> State:
     place = next(each for each in places if each.start == spot.place)
     how = in_words(unlike(sought, text[place.start : place.stop]))
     said = (
-        f"{quoted(sought)} isn't in the book as typed; with {how} it is in paragraph"
+        f"{quoted(sought)} isn't in the print as typed; with {how} it is in paragraph"
         f" {number}: * goes there."
     )
     return replace(state, finds_alike=True).saying(said)
@@ -118,8 +118,8 @@ def _at_found(session: Session, state: State, found: search.Found, count: int) -
     spot, what = found.spot, quoted(state.sought)
     if state.finds_alike:
         what = f"{what} in any form"
-    # the print may have as words what is looked for as cells
-    where = "the cells of the book" if state.pane is Pane.CELLS else "the book"
+    # the print may have as words what is looked for as cells, and a note has both
+    where = f"the {'cells' if state.pane is Pane.CELLS else 'print'} of the book"
     said = ""
     if found.is_same:
         said = f"{what} is nowhere else in {where}."

@@ -111,7 +111,8 @@ class Finding:
         elif found.is_same:
             said = f"{quoted(self.sought)} stands nowhere else in {_where(is_cells)}."
         elif found.is_around:
-            said = f"{said} This is the first in the book: there is none further on."
+            where = _where(is_cells)
+            said = f"{said} This is the first in {where}: there is none further on."
         say_there(desk, said)
 
     def _stands_otherwise(self) -> bool:

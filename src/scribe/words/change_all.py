@@ -270,7 +270,7 @@ def nowhere(session: Session, wanted: Replacement, offer: str) -> str:
     if wanted.ranges != WHOLE:
         return f"{old} isn't{within}. Nothing was changed."
     if within:
-        return f"{old} isn't in the book{within}. Nothing was changed."
+        return f"{old} isn't in the print of the book{within}. Nothing was changed."
     others = tallied(find_words(session, wanted.old, alike), wanted.old)
     how = offer if others.kinds == (Variant.CAPITALS,) else "."
     said = found_summary(wanted.old, tallied((), ""), others, how)

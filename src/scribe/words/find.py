@@ -71,15 +71,19 @@ def cell_lines(
 
 
 def found_summary(
-    text: str, tally: Tally, others: Tally, offer: str, where: str = "the book"
+    text: str,
+    tally: Tally,
+    others: Tally,
+    offer: str,
+    where: str = "the print of the book",
 ) -> str:
     """What was found, in a sentence, or what else there is that is like it, after an offer.
 
-    It is said where nothing was found.
+    It is said where nothing was found: a note may have it.
     """
     if others.count:
         return (
-            f"{quoted(text)} isn't in the book as typed. With {in_words(others.kinds)} it is there"
+            f"{quoted(text)} isn't in the print of the book as typed. With {in_words(others.kinds)} it is there"
             f" {_counted(others)}{offer}"
         )
     if not tally.count:
