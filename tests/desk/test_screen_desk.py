@@ -294,6 +294,20 @@ def test_words_that_stand_nowhere_else_are_said_to(reader: Sat) -> None:
     )
 
 
+def test_words_that_are_found_are_shown_with_all_cells_of_their_last_character(
+    moon: Path, sit: Sit
+) -> None:
+    sat = sit(moon)
+    sat.press("/", *"e T", "enter")
+    assert (sat.state.chosen, sat.state.place) == (1, 2)
+    cells = sat.state.chosen_cells
+    assert cells is not None and sat.state.reading is not None
+    assert sat.state.reading.braille[cells.start : cells.stop] == "⠑⠀⠠⠞"
+    # as those are on which a mark then stands
+    sat.press("m", "enter")
+    assert cells in sat.state.marked_cells
+
+
 def test_of_cells_it_is_said_that_they_are_nowhere_else_among_the_cells(
     moon: Path, sit: Sit
 ) -> None:

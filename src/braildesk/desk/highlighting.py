@@ -3,7 +3,12 @@
 from dataclasses import dataclass
 
 from braildesk import Session
-from braildesk.desk.places import Character, cells_on_lines, words_of
+from braildesk.desk.places import (
+    Character,
+    all_cells_of,
+    cells_on_lines,
+    words_of,
+)
 from braildesk.desk.readings import ParagraphReading, answers
 from braildesk.protocol.requests import Where
 from braildesk.text.sequences import seams
@@ -40,7 +45,11 @@ def highlighted_by_character(
     if not text or not reading.braille:
         return _NOTHING
     after = min(each for each in seams(text) if each > place)
-    return Highlighted(Span(place, after), _cells(session, reading, place, after))
+    words = Span(place, after)
+    cells = all_cells_of(
+        session, reading.paragraph.id, words, len(text), reading.braille
+    )
+    return Highlighted(words, cells)
 
 
 def cell_on_line(session: Session, reading: ParagraphReading, its: Highlighted) -> int:
@@ -51,17 +60,6 @@ def cell_on_line(session: Session, reading: ParagraphReading, its: Highlighted) 
     character = Character(number, its.words.start, text, braille)
     (cell,) = cells_on_lines(session, [character])
     return cell
-
-
-def _cells(session: Session, reading: ParagraphReading, place: int, after: int) -> Span:
-    """The cells of a character, with the signs before it."""
-    number = reading.paragraph.id
-    start = session.output_position(number, place)
-    for later in range(after, len(reading.text)):
-        stop = session.output_position(number, later)
-        if stop != start:
-            return Span(start, stop)
-    return Span(start, len(reading.braille))
 
 
 def cells_of_marks(session: Session, reading: ParagraphReading) -> tuple[Span, ...]:
@@ -80,7 +78,8 @@ def cells_of_marks(session: Session, reading: ParagraphReading) -> tuple[Span, .
     def after(start: int, stop: int) -> int:
         """The cell after a mark, and after all that was made with its last character."""
         if start < stop < len(text) and cells[stop] == cells[stop - 1]:
-            return _cells(session, reading, stop - 1, stop).stop
+            words = Span(stop - 1, stop)
+            return all_cells_of(session, number, words, len(text), reading.braille).stop
         return cells[stop]
 
     return tuple(Span(cells[start], after(start, stop)) for start, stop in spans)

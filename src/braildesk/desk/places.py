@@ -103,6 +103,21 @@ def cells_of(session: Session, paragraph: int, words: Span) -> Span:
     return Span(first, last + 1)
 
 
+def all_cells_of(
+    session: Session, paragraph: int, words: Span, length: int, braille: str
+) -> Span:
+    """The cells of words, with the signs before them and all that was made with the last character.
+
+    The print has so many characters.
+    """
+    first, last = cells_of(session, paragraph, words)
+    for later in range(words.stop, length):
+        stop = session.output_position(paragraph, later)
+        if stop != last - 1:
+            return Span(first, stop)
+    return Span(first, len(braille))
+
+
 def words_of(
     session: Session, paragraph: int, cells: Span, text: str, braille: str
 ) -> Span:

@@ -5,7 +5,7 @@ from dataclasses import replace
 from braildesk import Mark, Session
 from braildesk.desk import search
 from braildesk.desk.find import alike, unlike
-from braildesk.desk.places import cells_of
+from braildesk.desk.places import all_cells_of
 from braildesk.text.cells import NotCells, braille_patterns
 from braildesk.text.characters import code_and_name
 from braildesk.text.sequences import composed
@@ -125,8 +125,9 @@ def _at_found(session: Session, state: State, found: search.Found, count: int) -
         said = f"{what} is nowhere else in {where}."
     elif found.is_around:
         said = f"{what} isn't further on; this is the first in {where}."
-    number, span = state.book[spot.chosen].id, Span(spot.place, spot.place + count)
-    cells = span if state.pane is Pane.CELLS else cells_of(session, number, span)
-    braille = session.braille_of(number)
+    its, span = state.book[spot.chosen], Span(spot.place, spot.place + count)
+    number, braille, cells = its.id, session.braille_of(its.id), span
+    if state.pane is Pane.PRINT:
+        cells = all_cells_of(session, number, span, its.length, braille)
     words = WordsFound(number, state.pane, spot.place, cells, braille, count)
     return replace(state.at(spot.chosen, spot.place), found=words).saying(said)
