@@ -196,6 +196,8 @@ class Desk:
     # something is asked for which no key has asked, and the text that is typed there
     _is_offering = False
     _at_offer: Unread | None = None
+    # whether an answer that was refused is asked for again
+    _is_asked_again = False
 
     def __init__(
         self,
@@ -1398,7 +1400,7 @@ class Desk:
         done; where it is given up, why it was refused last, if it was, which is in the message then.
         """
         why = ""
-        while (found := ask(why, answer)) is not None:
+        while (found := self._answered(ask, why, answer)) is not None:
             try:
                 act(found)
                 return None
@@ -1410,6 +1412,18 @@ class Desk:
         if why:
             self.say(why)
         return why
+
+    def _answered(
+        self, ask: Callable[[str, Answer], Answer | None], why: str, answer: Answer
+    ) -> Answer | None:
+        """What is answered; a text that was typed on before it was asked again is given up after that."""
+        self._is_asked_again = bool(why)
+        try:
+            return ask(why, answer)
+        finally:
+            self._is_asked_again = False
+            if not self.is_ending:
+                self._put_by_at_offer()
 
     def one_of(
         self, title: str, asked: str, names: Sequence[str], first: int | None = None
@@ -1487,6 +1501,10 @@ class Desk:
         if held is None:
             return
         draft = replace(held.rest, text=held.text_of_all)
+        if self._is_asked_again:
+            # it is kept as what came last, and said once that is answered
+            self._at_offer = Unread("", draft)
+            return
 
         def look(found: "Future[str]") -> None:
             how = found.result() or "Ctrl+B brings it back."
