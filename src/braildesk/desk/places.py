@@ -110,10 +110,12 @@ def all_cells_of(
 
     The print has so many characters.
     """
-    first, last = cells_of(session, paragraph, words)
+    first = last = session.output_position(paragraph, words.start)
+    if words.stop - words.start > 1:
+        last = session.output_position(paragraph, words.stop - 1)
     for later in range(words.stop, length):
         stop = session.output_position(paragraph, later)
-        if stop != last - 1:
+        if stop != last:
             return Span(first, stop)
     return Span(first, len(braille))
 
